@@ -5,3 +5,8 @@ pub mod Image
 pub mod Ring
 pub mod Read
 pub mod Window
+pub mod Lent
+pub mod Record
+pub mod Query
+pub mod Consolidate
+pub mod Store

@@ -1,0 +1,63 @@
+-- One call: what it answers and what it leaves lent; and a list of them (document 01, "Words of the third demand"). Creation and opening stand beside, in
+-- Lent. Assumes nothing.
+use Prim.Native.Nat.{ℕ, zero, suc}
+use mathlib.Core.List.{List, [], _∷_}
+use Rattle.model.specs.Lent.{Lent}
+use Rattle.model.specs.Record.{Entry, recordCheck, recordOn, batchCheck, batchOn}
+use Rattle.model.specs.Query.{Answered, QueryReply, found, notFound, query, queryAuto}
+use Rattle.model.specs.Consolidate.{Run, run}
+
+pub data Call : Type 0 where
+  recordCall : (schema column value stamp : ℕ) → Call
+  batchCall : List Entry → (stamp : ℕ) → Call
+  queryCall : (schema column tier start end : ℕ) → Call
+  autoCall : (schema column start end : ℕ) → Call
+  consolidateCall : Call
+
+pub data Reply : Type 0 where
+  refused : ℕ → Reply
+  done : Reply
+  wrote : ℕ → Reply
+  read : Answered → Reply
+
+-- by a check's number
+unfoldable pub doneOr : ℕ → Reply
+doneOr zero = done
+doneOr (suc n) = refused (suc n)
+
+-- a refused run answers its number alone
+unfoldable pub wroteOr : ℕ → ℕ → Reply
+wroteOr zero k = wrote k
+wroteOr (suc n) k = refused (suc n)
+
+unfoldable pub readOr : QueryReply → Reply
+readOr (found a) = read a
+readOr (notFound n) = refused n
+
+pub record Done : Type 0 where
+  pub reply : Reply
+  pub lent : Lent
+
+unfoldable pub finished : Run → Done
+finished u = record { reply = wroteOr (u .refusal) (u .count); lent = u .lent }
+
+unfoldable pub call : Lent → Call → Done
+call l (recordCall k c v t) = record { reply = doneOr (recordCheck l k c v t); lent = recordOn (recordCheck l k c v t) l k c v t }
+call l (batchCall es t) = record { reply = doneOr (batchCheck l es t); lent = batchOn (batchCheck l es t) l es t }
+call l (queryCall k c j start end) = record { reply = readOr (query l k c j start end); lent = l }
+call l (autoCall k c start end) = record { reply = readOr (queryAuto l k c start end); lent = l }
+call l consolidateCall = finished (run l)
+
+-- what a list of calls leaves, and what they reply
+unfoldable pub after : Lent → List Call → Lent
+after l [] = l
+after l (c ∷ cs) = after (call l c .lent) cs
+
+unfoldable pub replies : Lent → List Call → List Reply
+replies l [] = []
+replies l (c ∷ cs) = let d = call l c in d .reply ∷ replies (d .lent) cs
+
+-- names every definition of this module, for a proof by computation: `unfolding Store-defs`
+unfoldable pub Store-defs : Unit {0}
+unfolding doneOr wroteOr readOr finished call after replies
+Store-defs = tt
