@@ -10,3 +10,4 @@ pub mod Record
 pub mod Query
 pub mod Consolidate
 pub mod Store
+pub mod Demand
