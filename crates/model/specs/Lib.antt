@@ -11,3 +11,4 @@ pub mod Query
 pub mod Consolidate
 pub mod Store
 pub mod Demand
+pub mod Cases

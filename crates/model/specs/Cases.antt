@@ -1,0 +1,211 @@
+-- The cases A to L of document 01 as rows of one table, and an example of every refusal as rows of another; the theorems that each row holds, by computation.
+-- The stores have two series, so that the Rust can run the same rows. Assumes nothing.
+use Prim.Native.Nat.{ℕ, zero, suc, _+_, _*_, _^_}
+use mathlib.Core.Path.{_≡_, refl}
+use mathlib.Core.Bool.{Bool, true, false}
+use mathlib.Core.List.{List, [], _∷_, _++_, map}
+use lib.ListN.{length, take, replicate}
+use lib.IntN.{pos}
+use lib.Ieee.{binary64, ofBits, toBits, ofInt, add, div, lt}
+use Rattle.model.specs.declared.Row.{Row}
+use Rattle.model.specs.declared.Point.{Point}
+use Rattle.model.specs.declared.End.{End}
+use Rattle.model.specs.declared.End.the-variants.{At, Missing}
+use Rattle.model.specs.declared.ConsolidationFn.{ConsolidationFn}
+use Rattle.model.specs.declared.ConsolidationFn.the-variants.{Average, Min, Max, Last, Sum, Count}
+use Rattle.model.specs.declared.WindowAnswer.{WindowAnswer}
+use Rattle.model.specs.declared.WindowAnswer.the-variants.{Empty, Number, NothingFinite}
+use Rattle.model.specs.Bytes.{Bytes-defs, bytes, put}
+use Rattle.model.specs.Words.{Words-defs}
+use Rattle.model.specs.Layout.{Layout-defs, freshValue, stampsAt, columnAt, slabLength}
+use Rattle.model.specs.Image.{Image-defs, rows, rowPlace, rowCount, placedRows, allRows, planCheck, createCheck, openCheck, imageLength, rowSlots}
+use Rattle.model.specs.Ring.{Ring-defs}
+use Rattle.model.specs.Read.{Read-defs, full, incomplete, pointsOf}
+use Rattle.model.specs.Window.{Window-defs, heldValue, seen, finites, answerOf}
+use Rattle.model.specs.Lent.{Lent-defs, Lent, creation, opening}
+use Rattle.model.specs.Record.{Record-defs, Entry}
+use Rattle.model.specs.Query.{Query-defs, Answered}
+use Rattle.model.specs.Consolidate.{Consolidate-defs}
+use Rattle.model.specs.Store.{Store-defs, Call, Reply, call, after, replies, recordCall, batchCall, queryCall, autoCall, consolidateCall, refused, done, wrote, read}
+
+-- ---- plans, samples, stores
+
+-- a plan's row: schema k, tier j
+unfoldable pub tierOf : (k j interval retention function series : ℕ) → Row
+tierOf k j i r f m =
+    record { schema = k; tier = j; interval = i; retention = r; function = f; series = m; offset = 0; len = 0; mark = 0; hash = 7 }
+
+-- of schema 0, with two series
+unfoldable pub tier : (j interval retention function : ℕ) → Row
+tier j i r f = tierOf 0 j i r f 2
+
+-- the bytes of a plan of k schemas
+unfoldable pub planOf : ℕ → List Row → List ℕ
+planOf k rs = (0x52 ∷ 0x53 ∷ 0x54 ∷ 0x4f ∷ []) ++ bytes 4 1 ++ bytes 4 k ++ bytes 4 (length rs) ++ replicate 16 0 ++ allRows rs
+
+unfoldable pub plan : List Row → List ℕ
+plan rs = planOf 1 rs
+
+-- a whole number as a sample
+unfoldable pub num : ℕ → ℕ
+num n = toBits binary64 (ofInt binary64 (pos n))
+
+unfoldable pub infinity : ℕ
+infinity = 0x7ff0_0000_0000_0000
+
+unfoldable pub fresh : List Row → Lent
+fresh rs = creation (plan rs) (record { image = replicate 1200 0; flags = replicate 32 true })
+
+-- ---- what a case asks, and what it is answered
+
+pub data Question : Type 0 where
+  -- where a slab of n slots and m series has its stamps and columns, and its length
+  slab : (n m : ℕ) → Question
+  -- a plan's slots, offsets and total
+  layout : List Row → Question
+  -- a plan's check, the slice to be written aside
+  check : List Row → Question
+  -- calls on a fresh store: flags and marks at the end, and the last reply
+  story : List Row → List Call → Question
+  -- the same, with an opening before the last of the calls, which is given apart
+  reopened : List Row → List Call → Call → Question
+  -- whether a ring with these ends covers the range from start up to end in full, and whether the answer may be incomplete
+  coverage : (oldest newest start end : ℕ) → Question
+  -- what a function makes of a window's values
+  window : ConsolidationFn → List ℕ → Question
+
+-- a reply, a query's with the points that its reader hands out
+pub data Shown : Type 0 where
+  refusal : ℕ → Shown
+  accepted : Shown
+  writes : ℕ → Shown
+  points : (tier : ℕ) (oldest newest : End) (start end : ℕ) (incomplete : Bool) → List Point → Shown
+
+pub data Result : Type 0 where
+  numbers : List ℕ → Result
+  last : (flags : List Bool) (marks : List ℕ) → Shown → Result
+  covered : (full incomplete : Bool) → Result
+  value : ℕ → Result
+  empty nothingFinite : Result
+
+unfoldable pub shown : Reply → Shown
+shown (refused n) = refusal n
+shown done = accepted
+shown (wrote k) = writes k
+shown (read a) = points (a .tier) (a .oldest) (a .newest) (a .start) (a .end) (a .incomplete) (pointsOf (a .reader))
+
+unfoldable pub columns : ℕ → ℕ → ℕ → ℕ → List ℕ
+columns n m c zero = []
+columns n m c (suc k) = columnAt n m c ∷ columns n m (suc c) k
+
+unfoldable pub lastReply : List Reply → Reply
+lastReply [] = done
+lastReply (r ∷ []) = r
+lastReply (r ∷ q ∷ rs) = lastReply (q ∷ rs)
+
+unfoldable pub resultOf : WindowAnswer → Result
+resultOf Empty = empty
+resultOf (Number x) = value (toBits binary64 x)
+resultOf NothingFinite = nothingFinite
+
+unfoldable pub shownOn : Lent → Reply → Result
+shownOn l r = last (take (rowCount (l .image)) (l .flags)) (map (λ x. x .mark) (rows (l .image))) (shown r)
+
+unfoldable pub result : Question → Result
+result (slab n m) = numbers (stampsAt m ∷ columns n m 0 m ++ slabLength n m ∷ [])
+result (layout rs) =
+    numbers (map rowSlots rs ++ map (λ r. r .offset) (placedRows (rowPlace (length rs)) rs) ++ imageLength (plan rs) ∷ [])
+result (check rs) = numbers (planCheck (plan rs) ∷ [])
+result (story rs cs) = let l = fresh rs in shownOn (after l cs) (lastReply (replies l cs))
+result (reopened rs cs c) = let l = opening (after (fresh rs) cs) in shownOn l (call l c .reply)
+result (coverage o n start end) = covered (full (At o) (At n) start end) (incomplete (At o) (At n) start end)
+result (window f vs) = let hs = map heldValue vs in resultOf (answerOf f (seen hs) (finites hs))
+
+-- ---- the table
+
+pub record Case : Type 0 where
+  pub ask : Question
+  pub reply : Result
+
+infix 5 _gives_
+unfoldable pub _gives_ : Question → Result → Case
+q gives a = record { ask = q; reply = a }
+
+unfoldable pub seconds : ℕ → ℕ
+seconds n = n * 1_000_000_000
+
+-- B: 1 s for 1 h, 60 s for 24 h, 1 h for 30 days
+unfoldable pub three : List Row
+three = tier 0 (seconds 1) (seconds 3600) 0 ∷ tier 1 (seconds 60) (seconds 86_400) 1 ∷ tier 2 (seconds 3600) (seconds 2_592_000) 1 ∷ []
+
+-- interval 10 and n slots
+unfoldable pub ring10 : ℕ → List Row
+ring10 n = tier 0 10 (10 * n) 0 ∷ []
+
+-- 10 into 30
+unfoldable pub two : List Row
+two = tier 0 10 100 0 ∷ tier 1 30 300 1 ∷ []
+
+-- a sample n at t, of column 0
+unfoldable pub rec : ℕ → ℕ → Call
+rec t n = recordCall 0 0 (num n) t
+
+unfoldable pub end64 : ℕ
+end64 = 0xffff_ffff_ffff_ffff
+
+-- a query of column 0 at tier j over all time
+unfoldable pub everything : ℕ → Call
+everything j = queryCall 0 0 j 0 end64
+
+unfoldable pub at : ℕ → ℕ → Point
+at t n = record { stamp = t; value = num n }
+
+unfoldable pub cases : List Case
+cases =
+    -- A
+    (slab 60 2 gives numbers (72 ∷ 552 ∷ 1_032 ∷ 1_512 ∷ []))
+    -- B
+    ∷ (layout three gives numbers (3_600 ∷ 1_440 ∷ 720 ∷ 224 ∷ 86_696 ∷ 121_328 ∷ 138_680 ∷ []))
+    -- C
+    ∷ (check (tier 0 1 1_000_000_000 0 ∷ []) gives numbers (0 ∷ []))
+    ∷ (check (tier 0 1 1_000_000_001 0 ∷ []) gives numbers (5 ∷ []))
+    -- D
+    ∷ (story (ring10 4) (rec 10 1 ∷ rec 20 2 ∷ rec 30 3 ∷ rec 40 4 ∷ everything 0 ∷ [])
+    gives last (true ∷ []) (0 ∷ []) (points 0 (At 10) (At 40) 0 end64 true (at 10 1 ∷ at 20 2 ∷ at 30 3 ∷ at 40 4 ∷ [])))
+    -- E
+    ∷ (story (ring10 4) (rec 10 1 ∷ rec 20 2 ∷ rec 30 3 ∷ rec 40 4 ∷ recordCall 0 0 freshValue 15 ∷ everything 0 ∷ [])
+    gives last (true ∷ []) (0 ∷ []) (points 0 (At 20) (At 15) 0 end64 true (at 20 2 ∷ at 30 3 ∷ at 40 4 ∷ [])))
+    -- F
+    ∷ (coverage 10 40 10 40 gives covered true false)
+    ∷ (coverage 10 40 10 41 gives covered false false)
+    ∷ (coverage 10 40 9 40 gives covered false true)
+    -- G
+    ∷ (story (ring10 4) (recordCall 0 0 infinity 0 ∷ []) gives last (false ∷ []) (0 ∷ []) (refusal 12))
+    ∷ (story (ring10 4) (batchCall (record { schema = 0; column = 0; value = infinity } ∷ []) 0 ∷ []) gives last (false ∷ []) (0 ∷ []) (refusal 13))
+    -- H
+    ∷ (window Average (num 1 ∷ num 2 ∷ num 4 ∷ []) gives value 0x4002_aaaa_aaaa_aaab)
+    ∷ (window Average (infinity ∷ infinity ∷ []) gives nothingFinite)
+    -- I
+    ∷ (story (tier 0 10 40 0 ∷ tier 1 20 80 1 ∷ tier 2 40 80 1 ∷ []) (queryCall 0 0 3 5 5 ∷ [])
+    gives last (false ∷ false ∷ false ∷ []) (0 ∷ 0 ∷ 0 ∷ []) (refusal 14))
+    -- J
+    ∷ (story two (rec 30 1 ∷ rec 40 2 ∷ rec 50 6 ∷ consolidateCall ∷ []) gives last (false ∷ false ∷ []) (50 ∷ 0 ∷ []) (writes 1))
+    ∷ (story two (rec 30 1 ∷ rec 40 2 ∷ rec 50 6 ∷ consolidateCall ∷ everything 1 ∷ [])
+    gives last (false ∷ false ∷ []) (50 ∷ 0 ∷ []) (points 1 (At 30) (At 30) 0 end64 true (at 30 3 ∷ [])))
+    ∷ (story two (rec 30 1 ∷ rec 40 2 ∷ rec 50 6 ∷ consolidateCall ∷ rec 60 5 ∷ consolidateCall ∷ rec 70 7 ∷ rec 80 9 ∷ consolidateCall ∷ everything 1 ∷ [])
+    gives last (false ∷ false ∷ []) (80 ∷ 0 ∷ []) (points 1 (At 30) (At 60) 0 end64 true (at 30 3 ∷ at 60 8 ∷ [])))
+    -- K
+    ∷ (story two (rec 10 1 ∷ consolidateCall ∷ []) gives last (false ∷ false ∷ []) (0 ∷ 0 ∷ []) (refusal 13))
+    -- L
+    ∷ (reopened (ring10 10) (rec 50 1 ∷ rec 60 2 ∷ rec 70 3 ∷ rec 80 4 ∷ rec 90 5 ∷ rec 100 6 ∷ rec 110 7 ∷ []) (everything 0)
+    gives last (false ∷ []) (0 ∷ []) (points 0 (At 100) (At 110) 0 end64 true (at 100 6 ∷ at 110 7 ∷ [])))
+    ∷ []
+
+unfoldable pub Cases-defs : Unit {0}
+unfolding Bytes-defs Words-defs Layout-defs Image-defs Ring-defs Read-defs Window-defs Lent-defs Record-defs Query-defs Consolidate-defs Store-defs tierOf tier planOf plan num infinity fresh shown columns lastReply resultOf shownOn result _gives_ seconds three ring10 two rec end64 everything at ofBits toBits ofInt add div lt
+Cases-defs = tt
+
+-- each row holds: what the definitions give is what the row says
+pub every-case : map (λ c. result (c .ask)) cases ≡ map (λ c. c .reply) cases
+unfolding Cases-defs cases
+every-case = refl
