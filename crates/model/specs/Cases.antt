@@ -26,7 +26,7 @@ use Rattle.model.specs.Lent.{Lent-defs, Lent, creation, opening}
 use Rattle.model.specs.Record.{Record-defs, Entry}
 use Rattle.model.specs.Query.{Query-defs, Answered}
 use Rattle.model.specs.Consolidate.{Consolidate-defs}
-use Rattle.model.specs.Store.{Store-defs, Call, Reply, call, after, replies, recordCall, batchCall, queryCall, autoCall, consolidateCall, refused, done, wrote, read}
+use Rattle.model.specs.Store.{Store-defs, Call, Reply, Done, call, after, recordCall, batchCall, queryCall, autoCall, consolidateCall, refused, done, wrote, read}
 
 -- ---- plans, samples, stores
 
@@ -54,7 +54,7 @@ unfoldable pub infinity : ℕ
 infinity = 0x7ff0_0000_0000_0000
 
 unfoldable pub fresh : List Row → Lent
-fresh rs = creation (plan rs) (record { image = replicate 1200 0; flags = replicate 32 true })
+fresh rs = creation (plan rs) (record { image = replicate 600 0; flags = replicate 32 true })
 
 -- ---- what a case asks, and what it is answered
 
@@ -98,26 +98,26 @@ unfoldable pub columns : ℕ → ℕ → ℕ → ℕ → List ℕ
 columns n m c zero = []
 columns n m c (suc k) = columnAt n m c ∷ columns n m (suc c) k
 
-unfoldable pub lastReply : List Reply → Reply
-lastReply [] = done
-lastReply (r ∷ []) = r
-lastReply (r ∷ q ∷ rs) = lastReply (q ∷ rs)
+-- the last of the calls: what it answers and leaves
+unfoldable pub lastCall : Done → List Call → Done
+lastCall d [] = d
+lastCall d (c ∷ cs) = lastCall (call (d .lent) c) cs
 
 unfoldable pub resultOf : WindowAnswer → Result
 resultOf Empty = empty
 resultOf (Number x) = value (toBits binary64 x)
 resultOf NothingFinite = nothingFinite
 
-unfoldable pub shownOn : Lent → Reply → Result
-shownOn l r = last (take (rowCount (l .image)) (l .flags)) (map (λ x. x .mark) (rows (l .image))) (shown r)
+unfoldable pub shownOn : Done → Result
+shownOn d = let l = d .lent in last (take (rowCount (l .image)) (l .flags)) (map (λ x. x .mark) (rows (l .image))) (shown (d .reply))
 
 unfoldable pub result : Question → Result
 result (slab n m) = numbers (stampsAt m ∷ columns n m 0 m ++ slabLength n m ∷ [])
 result (layout rs) =
     numbers (map rowSlots rs ++ map (λ r. r .offset) (placedRows (rowPlace (length rs)) rs) ++ imageLength (plan rs) ∷ [])
 result (check rs) = numbers (planCheck (plan rs) ∷ [])
-result (story rs cs) = let l = fresh rs in shownOn (after l cs) (lastReply (replies l cs))
-result (reopened rs cs c) = let l = opening (after (fresh rs) cs) in shownOn l (call l c .reply)
+result (story rs cs) = shownOn (lastCall (record { reply = done; lent = fresh rs }) cs)
+result (reopened rs cs c) = shownOn (call (opening (after (fresh rs) cs)) c)
 result (coverage o n start end) = covered (full (At o) (At n) start end) (incomplete (At o) (At n) start end)
 result (window f vs) = let hs = map heldValue vs in resultOf (answerOf f (seen hs) (finites hs))
 
@@ -144,7 +144,7 @@ ring10 n = tier 0 10 (10 * n) 0 ∷ []
 
 -- 10 into 30
 unfoldable pub two : List Row
-two = tier 0 10 100 0 ∷ tier 1 30 300 1 ∷ []
+two = tier 0 10 90 0 ∷ tier 1 30 90 1 ∷ []
 
 -- a sample n at t, of column 0
 unfoldable pub rec : ℕ → ℕ → Call
@@ -202,7 +202,7 @@ cases =
     ∷ []
 
 unfoldable pub Cases-defs : Unit {0}
-unfolding Bytes-defs Words-defs Layout-defs Image-defs Ring-defs Read-defs Window-defs Lent-defs Record-defs Query-defs Consolidate-defs Store-defs tierOf tier planOf plan num infinity fresh shown columns lastReply resultOf shownOn result _gives_ seconds three ring10 two rec end64 everything at ofBits toBits ofInt add div lt
+unfolding Bytes-defs Words-defs Layout-defs Image-defs Ring-defs Read-defs Window-defs Lent-defs Record-defs Query-defs Consolidate-defs Store-defs tierOf tier planOf plan num infinity fresh shown columns lastCall resultOf shownOn result _gives_ seconds three ring10 two rec end64 everything at ofBits toBits ofInt add div lt
 Cases-defs = tt
 
 -- each row holds: what the definitions give is what the row says

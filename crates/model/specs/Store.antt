@@ -42,8 +42,8 @@ unfoldable pub finished : Run → Done
 finished u = record { reply = wroteOr (u .refusal) (u .count); lent = u .lent }
 
 unfoldable pub call : Lent → Call → Done
-call l (recordCall k c v t) = record { reply = doneOr (recordCheck l k c v t); lent = recordOn (recordCheck l k c v t) l k c v t }
-call l (batchCall es t) = record { reply = doneOr (batchCheck l es t); lent = batchOn (batchCheck l es t) l es t }
+call l (recordCall k c v t) = let n = recordCheck l k c v t in record { reply = doneOr n; lent = recordOn n l k c v t }
+call l (batchCall es t) = let n = batchCheck l es t in record { reply = doneOr n; lent = batchOn n l es t }
 call l (queryCall k c j start end) = record { reply = readOr (query l k c j start end); lent = l }
 call l (autoCall k c start end) = record { reply = readOr (queryAuto l k c start end); lent = l }
 call l consolidateCall = finished (run l)
