@@ -54,7 +54,7 @@ unfoldable pub infinity : ℕ
 infinity = 0x7ff0_0000_0000_0000
 
 unfoldable pub fresh : List Row → Lent
-fresh rs = creation (plan rs) (record { image = replicate 600 0; flags = replicate 32 true })
+fresh rs = creation (plan rs) (record { image = replicate 700 0; flags = replicate 32 true })
 
 -- ---- what a case asks, and what it is answered
 
