@@ -12,3 +12,4 @@ pub mod Consolidate
 pub mod Store
 pub mod Demand
 pub mod Cases
+pub mod Refusals
