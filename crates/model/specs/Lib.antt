@@ -13,3 +13,4 @@ pub mod Store
 pub mod Demand
 pub mod Cases
 pub mod Refusals
+pub mod Instance

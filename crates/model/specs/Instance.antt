@@ -1,0 +1,163 @@
+-- The third demand is not empty: a list of calls on three tiers that meets the supposition, with the promised answers, and for each clause a plan or a list
+-- that breaks it and is refused by it. All by computation. Assumes nothing.
+use Prim.Native.Nat.{ℕ, zero, suc, _+_, _*_, _^_}
+use mathlib.Core.Path.{_≡_, refl}
+use mathlib.Core.Bool.{Bool, true, false}
+use mathlib.Core.List.{List, [], _∷_, _++_, map}
+use lib.ListN.{length, replicate}
+use lib.Dec.{T}
+use lib.IntN.{pos, negsuc}
+use lib.Ieee.{binary64, toBits, ofInt}
+use Rattle.model.specs.declared.Row.{Row}
+use Rattle.model.specs.declared.Point.{Point}
+use Rattle.model.specs.Image.{rows, createCheck}
+use Rattle.model.specs.Record.{Entry}
+use Rattle.model.specs.Store.{Call, recordCall, batchCall, queryCall, autoCall, consolidateCall}
+use Rattle.model.specs.Demand.{Demand-defs, Situation, suited, supposed, history, finest, coarsest, each, samples, due, answers, tierInterval, used, events, afterRun}
+use Rattle.model.specs.Cases.{Cases-defs, tierOf, tier, plan, num, infinity, at}
+
+-- ---- the list
+
+-- 10, 20 and 40 ns; 4, 2 and 1 slots
+unfoldable pub tiers : List Row
+tiers = tier 0 10 40 0 ∷ tier 1 20 40 1 ∷ tier 2 40 40 1 ∷ []
+
+-- -n - 1
+unfoldable pub minus : ℕ → ℕ
+minus n = toBits binary64 (ofInt binary64 (negsuc n))
+
+unfoldable pub minusZero : ℕ
+minusZero = 0x8000_0000_0000_0000
+
+-- one batch for both columns at t: a for column 1, b for column 0
+unfoldable pub both : ℕ → ℕ → ℕ → Call
+both t a b = batchCall (record { schema = 0; column = 1; value = a } ∷ record { schema = 0; column = 0; value = b } ∷ []) t
+
+-- two coarsest intervals, the run behind the second left to Situation; refused records, a query, an empty batch and a second run stand between
+unfoldable pub calls : List Call
+calls =
+    both 40 (num 1) minusZero ∷ recordCall 0 0 (num 3) 50 ∷ recordCall 0 1 (num 3) 0 ∷ recordCall 0 1 (minus 3) 50 ∷ both 60 (num 7) (num 7)
+    ∷ both 70 (num 2) (minus 0) ∷ queryCall 0 0 0 0 9 ∷ consolidateCall ∷ consolidateCall ∷ batchCall [] 0
+    ∷ both 80 (num 1) (num 2) ∷ both 90 (num 2) (num 5) ∷ both 100 (num 1) (num 2) ∷ recordCall 0 1 infinity 110 ∷ both 110 (num 4) (num 2) ∷ []
+
+-- column 1 at tier k; a refused record and a query stand between the run and the query
+unfoldable pub story : ℕ → Situation
+story k = record {
+  plan = plan tiers;
+  buf = replicate 610 9;
+  flags = replicate 32 true;
+  before = calls;
+  between = recordCall 0 9 0 0 ∷ autoCall 0 1 0 9 ∷ [];
+  column = 1;
+  tier = k;
+}
+
+unfoldable Instance-defs : Unit {0}
+unfolding Cases-defs Demand-defs tiers minus minusZero both calls story
+Instance-defs = tt
+
+-- the supposition is met
+pub accepted-plan : createCheck (plan tiers) (replicate 610 9) ≡ 0
+unfolding Instance-defs
+accepted-plan = refl
+
+pub suited-plan : T (suited (rows (plan tiers)))
+unfolding Instance-defs
+suited-plan = tt
+
+pub met : T (supposed 10 40 (history (story 0)))
+unfolding Instance-defs
+met = tt
+
+pub quiet : events (afterRun (story 0)) (story 0 .between) ≡ []
+unfolding Instance-defs
+quiet = refl
+
+-- the windows that are due at each tier, and the points: 1, 2, 1 and 4; 1.5 and 2.5; 2
+pub dues : map (λ (k : ℕ). due (story k)) (0 ∷ 1 ∷ 2 ∷ []) ≡ (80 ∷ 90 ∷ 100 ∷ 110 ∷ []) ∷ (80 ∷ 100 ∷ []) ∷ (80 ∷ []) ∷ []
+unfolding Instance-defs
+dues = refl
+
+pub points :
+    map (λ (k : ℕ). answers (story k)) (0 ∷ 1 ∷ 2 ∷ [])
+    ≡ (at 80 1 ∷ at 90 2 ∷ at 100 1 ∷ at 110 4 ∷ [])
+    ∷ (record { stamp = 80; value = 0x3ff8_0000_0000_0000 } ∷ record { stamp = 100; value = 0x4004_0000_0000_0000 } ∷ [])
+    ∷ (at 80 2 ∷ [])
+    ∷ []
+unfolding Instance-defs
+points = refl
+
+-- they are as promised
+pub promised : map (λ (k : ℕ). each 1 (tierInterval (story k)) k (samples (story k)) (due (story k)) (answers (story k))) (0 ∷ 1 ∷ 2 ∷ []) ≡ true ∷ true ∷ true ∷ []
+unfolding Instance-defs
+promised = refl
+
+-- ---- plans that are not suited: one tier, five tiers, a ratio that is not whole, a ratio of 4,097, a tier that takes the least, slots that do not span the
+-- coarsest interval; and one with the ratio 4,096
+
+unfoldable pub unsuited : List Bool
+unsuited =
+    suited (tier 0 10 40 0 ∷ []) ∷ suited (tier 0 1 16 0 ∷ tier 1 2 16 1 ∷ tier 2 4 16 1 ∷ tier 3 8 16 1 ∷ tier 4 16 16 1 ∷ [])
+    ∷ suited (tier 0 10 45 0 ∷ tier 1 15 45 1 ∷ []) ∷ suited (tier 0 1 4097 0 ∷ tier 1 4097 4097 1 ∷ [])
+    ∷ suited (tier 0 10 40 0 ∷ tier 1 20 60 2 ∷ []) ∷ suited (tier 0 10 40 0 ∷ tier 1 20 40 1 ∷ tier 2 60 60 1 ∷ [])
+    ∷ suited (tier 0 1 4096 0 ∷ tier 1 4096 4096 1 ∷ []) ∷ []
+
+pub unsuited-are : unsuited ≡ false ∷ false ∷ false ∷ false ∷ false ∷ false ∷ true ∷ []
+unfolding Instance-defs unsuited
+unsuited-are = refl
+
+-- ---- lists that break the supposition, on 10 and 20 ns
+
+unfoldable pub isSupposed : List Call → Bool
+isSupposed cs =
+    let s : Situation = record { plan = plan (tier 0 10 20 0 ∷ tier 1 20 20 1 ∷ []); buf = replicate 480 9; flags = replicate 32 true; before = cs; between = []; column = 0; tier = 0 } in
+    supposed 10 20 (history s)
+
+-- a run follows each list. Good: one interval; two intervals; a run twice
+unfoldable pub good : List Bool
+good =
+    isSupposed (both 20 (num 1) (num 2) ∷ both 30 (num 1) (num 2) ∷ [])
+    ∷ isSupposed (both 20 (num 1) (num 2) ∷ both 30 (num 1) (num 2) ∷ consolidateCall ∷ both 40 (num 1) (num 2) ∷ both 50 (num 1) (num 2) ∷ [])
+    ∷ isSupposed (recordCall 0 1 (num 1) 20 ∷ recordCall 0 1 (num 1) 30 ∷ consolidateCall ∷ []) ∷ []
+
+pub good-are : good ≡ true ∷ true ∷ true ∷ []
+unfolding Instance-defs isSupposed good
+good-are = refl
+
+-- the runs: none behind the first interval; one too early; one before a last sample; no sample at all
+unfoldable pub offSchedule : List Bool
+offSchedule =
+    isSupposed (both 20 (num 1) (num 2) ∷ both 30 (num 1) (num 2) ∷ both 40 (num 1) (num 2) ∷ both 50 (num 1) (num 2) ∷ [])
+    ∷ isSupposed (both 20 (num 1) (num 2) ∷ consolidateCall ∷ both 30 (num 1) (num 2) ∷ [])
+    ∷ isSupposed (both 20 (num 1) (num 2) ∷ recordCall 0 0 (num 2) 30 ∷ consolidateCall ∷ recordCall 0 1 (num 2) 30 ∷ [])
+    ∷ isSupposed [] ∷ []
+
+pub off-schedule : offSchedule ≡ false ∷ false ∷ false ∷ false ∷ []
+unfolding Instance-defs isSupposed offSchedule
+off-schedule = refl
+
+-- the ticks: a gap; a column that begins late; one that stops early; a tick twice; a stamp between ticks; stamps that fall; a start that is no multiple of
+-- the coarsest interval
+unfoldable pub offTicks : List Bool
+offTicks =
+    isSupposed (both 20 (num 1) (num 2) ∷ both 30 (num 1) (num 2) ∷ consolidateCall ∷ both 50 (num 1) (num 2) ∷ [])
+    ∷ isSupposed (recordCall 0 0 (num 1) 20 ∷ both 30 (num 1) (num 2) ∷ [])
+    ∷ isSupposed (both 20 (num 1) (num 2) ∷ recordCall 0 0 (num 1) 30 ∷ [])
+    ∷ isSupposed (both 20 (num 1) (num 2) ∷ both 30 (num 1) (num 2) ∷ both 30 (num 1) (num 2) ∷ [])
+    ∷ isSupposed (both 20 (num 1) (num 2) ∷ both 25 (num 1) (num 2) ∷ both 30 (num 1) (num 2) ∷ [])
+    ∷ isSupposed (recordCall 0 0 (num 1) 20 ∷ recordCall 0 0 (num 1) 30 ∷ recordCall 0 1 (num 1) 20 ∷ recordCall 0 1 (num 1) 30 ∷ [])
+    ∷ isSupposed (both 30 (num 1) (num 1) ∷ []) ∷ []
+
+pub off-ticks : offTicks ≡ false ∷ false ∷ false ∷ false ∷ false ∷ false ∷ false ∷ []
+unfolding Instance-defs isSupposed offTicks
+off-ticks = refl
+
+-- the values: NaN; 2^30 + 1; a half. 2^30 itself is good
+unfoldable pub offValues : List Bool
+offValues =
+    isSupposed (both 20 (num 1) 0x7ff8_0000_0000_0000 ∷ both 30 (num 1) (num 2) ∷ []) ∷ isSupposed (both 20 (num 1) (num 1_073_741_825) ∷ both 30 (num 1) (num 2) ∷ [])
+    ∷ isSupposed (both 20 (num 1) 0x3fe0_0000_0000_0000 ∷ both 30 (num 1) (num 2) ∷ []) ∷ isSupposed (both 20 (num 1) (num 1_073_741_824) ∷ both 30 (num 1) (num 2) ∷ []) ∷ []
+
+pub off-values : offValues ≡ false ∷ false ∷ false ∷ true ∷ []
+unfolding Instance-defs isSupposed offValues
+off-values = refl
