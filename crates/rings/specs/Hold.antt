@@ -1,0 +1,217 @@
+-- What a ring holds after writes without gaps: their numbers never fall and grow by at most one, from a first number a on. The cursor is the newest
+-- number's slot, the slots of the newest numbers hold their stamps, every other slot is fresh, and the flag tells whether the reading goes round. For any
+-- number of slots, one among them, and any first number. From it, the order of reading: the held numbers, ascending. Assumes nothing.
+use Prim.Native.Nat.{ℕ, zero, suc, _+_, _-_, _*_, _/_, _%_, _^_, _≤_, _<_, max}
+use native.Mathlib.Nat.{suc-mod, mod-lt, mod-le, mod-add-div', mod-eq-sub-mod, mul-mod-left, div-eq-of-lt-le, div-mul-le-self, mul-pos, mul-le-mul-right}
+use native.Mathlib.Omega.{arith}
+use native.Mathlib.Decide.{decLt}
+use mathlib.Core.Path.{_≡_, refl, sym, ap, _∙_}
+use mathlib.Core.Logic.{_≢_}
+use mathlib.Core.Bool.{Bool, true, false, not, _||_}
+use mathlib.Core.List.{List, []}
+use lib.Dec.{T, ltb}
+use Rattle.model.specs.Ring.{Ring, slots, cursor, stamp, isEmpty, firstPlace, order, walk}
+use Rattle.laws.specs.Tests.{yes-lt, no-lt, no-eq}
+use Rattle.rings.specs.Numbers.{slotsOf, walk-is, next-mod, next-zero}
+use Rattle.rings.specs.Sound.{Sound, some-slots}
+use Rattle.rings.specs.Column.{Keeps, keeps-start}
+
+-- a sound slab with a nonzero interval, whose stamps pass consolidation's check
+pub record Slab (s : List ℕ) (n m d : ℕ) : Type 0 where
+  pub sound : Sound s n m d
+  pub long : 0 < d
+  pub low : (i : ℕ) → i < n → stamp s i < 2 ^ 63
+
+-- the slot of the newest of the e numbers from a on; 0 before the first
+unfoldable pub newestSlot : ℕ → ℕ → ℕ → ℕ
+newestSlot n a zero = 0
+newestSlot n a (suc k) = (a + k) % n
+
+-- the flag after the e numbers from a on: where it is set, n numbers are behind the newest; where it is not, none that is held stands above the cursor
+pub record Flag (n a e : ℕ) (w : Bool) : Type 0 where
+  pub wrapped-far : T w → n ≤ a + e
+  pub else-near : T (not w) → (a + e - 1) / n * n ≤ max a (a + e - n)
+
+-- a ring that took the e numbers from a on
+pub record State (r : Ring) (n m d a e : ℕ) : Type 0 where
+  pub slab-is : Slab (r .slab) n m d
+  pub cursor-is : cursor (r .slab) ≡ newestSlot n a e
+  pub stamps : Keeps 0 (stamp (r .slab)) n a e (λ (q : ℕ). q * d)
+  pub flag : Flag n a e (r .wrapped)
+
+-- a ring that took nothing
+pub record Blank (r : Ring) (n m d : ℕ) : Type 0 where
+  pub slab-is : Slab (r .slab) n m d
+  pub cursor-is : cursor (r .slab) ≡ 0
+  pub stamps : (i : ℕ) → i < n → stamp (r .slab) i ≡ 0
+  pub flag : r .wrapped ≡ false
+
+-- ---- the flag
+
+flag-none : (n a : ℕ) → Flag n a 0 false
+flag-none n a = record { wrapped-far = λ t. absurd t; else-near = λ t. omega (arith, div-mul-le-self (a + 0 - 1) n) }
+
+-- it may be the first number of any ring
+pub blank-state : (r : Ring) (n m d a : ℕ) → Blank r n m d → State r n m d a 0
+unfolding newestSlot
+blank-state r n m d a h = record {
+  slab-is = h .slab-is;
+  cursor-is = h .cursor-is;
+  stamps = keeps-start 0 (stamp (r .slab)) n a (λ (q : ℕ). q * d) (h .stamps);
+  flag = rw (h .flag) (flag-none n a);
+}
+
+same-quot : (b n : ℕ) → suc (b % n) < n → suc b / n ≡ b / n
+same-quot b n h = div-eq-of-lt-le n (lin (b / n * n) (b % n) b (mod-add-div' b n)) (lin2 (b / n) (b % n) b n (mod-add-div' b n) h)
+  where
+    lin : (x r b : ℕ) → r + x ≡ b → x ≤ suc b
+    lin x r b e = omega arith
+
+    lin2 : (x r b n : ℕ) → r + x * n ≡ b → suc r < n → suc b < (x + 1) * n
+    lin2 x r b n e h = omega arith
+
+-- the next number
+flag-next : (n a k : ℕ) (w : Bool) → 0 < n → Flag n a (suc k) w → Flag n a (suc (suc k)) (w || ltb ((a + suc k) % n) ((a + k) % n))
+flag-next n a k true z f = record { wrapped-far = λ t. omega (arith, f .wrapped-far tt); else-near = λ t. absurd t }
+flag-next n a k false z f =
+    let s : a + suc k ≡ suc (a + k) = omega arith in
+    let t : a + suc (suc k) - 1 ≡ suc (a + k) = omega arith in
+    let u : a + suc k - 1 ≡ a + k = omega arith in
+    rw s (go (a + k) s t (rw u at (f .else-near tt)) (decLt (suc ((a + k) % n)) n))
+  where
+    go : (b : ℕ) → a + suc k ≡ suc b → a + suc (suc k) - 1 ≡ suc b → b / n * n ≤ max a (a + suc k - n) → Dec (suc (b % n) < n) → Flag n a (suc (suc k)) (ltb (suc b % n) (b % n))
+    go b s t near (yes h) =
+        let e : suc b % n ≡ suc (b % n) = next-mod b n h in
+        let g : suc b / n ≡ b / n = same-quot b n h in
+        rw (e, no-lt (suc (b % n)) (b % n) (omega arith)) (record { wrapped-far = λ x. absurd x; else-near = λ x. rw (t, g) (omega arith) })
+    go b s t near (no h) =
+        let m : b % n < n = mod-lt b z in
+        let e : suc b % n ≡ 0 = next-zero b n (omega arith) in
+        last e (decLt 0 (b % n))
+      where
+        last : suc b % n ≡ 0 → Dec (0 < b % n) → Flag n a (suc (suc k)) (ltb (suc b % n) (b % n))
+        last e (yes p) = rw (e, yes-lt 0 (b % n) p) (record { wrapped-far = λ x. omega (arith, mod-le b n); else-near = λ x. absurd x })
+        last e (no p) = rw (e, no-lt 0 (b % n) (omega arith)) (record { wrapped-far = λ x. absurd x; else-near = λ x. rw t (omega (arith, div-mul-le-self (suc b) n)) })
+
+-- a write of number a + k, the next (e is k) or the newest again (e is k + 1)
+pub flag-step : (n a e k : ℕ) (w : Bool) → 0 < n → k ≤ e → e ≤ suc k → Flag n a e w → Flag n a (suc k) (w || ltb ((a + k) % n) (newestSlot n a e))
+unfolding newestSlot
+flag-step n a zero zero true z l u f = record { wrapped-far = λ t. omega (arith, f .wrapped-far tt); else-near = λ t. absurd t }
+flag-step n a zero zero false z l u f =
+    rw (no-lt ((a + 0) % n) 0 (omega arith)) (record { wrapped-far = λ t. absurd t; else-near = λ t. omega (arith, div-mul-le-self (a + 1 - 1) n) })
+flag-step n a zero (suc k) w z l u f = absurd (omega arith)
+flag-step n a (suc j) k w z l u f = go (decLt j k)
+  where
+    same : (v : Bool) → Flag n a (suc j) v → Flag n a (suc j) (v || ltb ((a + j) % n) ((a + j) % n))
+    same true g = g
+    same false g = rw (no-lt ((a + j) % n) ((a + j) % n) (omega arith)) g
+
+    go : Dec (j < k) → Flag n a (suc k) (w || ltb ((a + k) % n) ((a + j) % n))
+    go (yes p) = let e : k ≡ suc j = omega arith in rw e (flag-next n a j w z f)
+    go (no p) = let e : k ≡ j = omega arith in rw e (same w f)
+
+-- ---- the order of reading
+
+-- nothing, where the stamp at the cursor is 0
+pub order-none : (r : Ring) → stamp (r .slab) (cursor (r .slab)) ≡ 0 → order r ≡ []
+unfolding order firstPlace isEmpty walk
+order-none r e = rw e
+
+order-round : (r : Ring) (n k : ℕ) → cursor (r .slab) ≡ k → stamp (r .slab) k ≢ 0 → r .wrapped ≡ true → slots (r .slab) ≡ n → order r ≡ walk n (suc k % n) n
+unfolding order firstPlace isEmpty
+order-round r n k e f w g = rw (e, no-eq (stamp (r .slab) k) 0 f, w, g)
+
+order-line : (r : Ring) (n k : ℕ) → cursor (r .slab) ≡ k → stamp (r .slab) k ≢ 0 → r .wrapped ≡ false → slots (r .slab) ≡ n → order r ≡ walk n 0 (suc k)
+unfolding order firstPlace isEmpty
+order-line r n k e f w g = rw (e, no-eq (stamp (r .slab) k) 0 f, w, g)
+
+-- the first number that a ring of n slots still holds, of the e from a on
+unfoldable pub firstHeld : ℕ → ℕ → ℕ → ℕ
+firstHeld n a e = max a (a + e - n)
+
+-- the slots of the numbers from `from` on are read in this order. They end with the newest number, and begin at the first held one or before it, where
+-- the slots are fresh
+pub record Reads (r : Ring) (n a e : ℕ) : Type 0 where
+  pub from : ℕ
+  pub many : ℕ
+  pub order-is : order r ≡ slotsOf n from many
+  pub ends : from + many ≡ a + e
+  pub fits : many ≤ n
+  pub back : from ≤ firstHeld n a e
+
+pub reads : (r : Ring) (n m d a e : ℕ) → State r n m d a e → 0 < a → Reads r n a e
+unfolding newestSlot firstHeld
+reads r n m d a zero h z = record {
+  from = a;
+  many = 0;
+  order-is = order-none r (rw (h .cursor-is) (h .stamps .none 0 (some-slots (h .slab-is .sound)) (λ q x y. absurd (omega arith)))) ∙ unfold slotsOf in refl;
+  ends = refl;
+  fits = omega arith;
+  back = omega arith;
+}
+reads r n m d a (suc k) h z = go (r .wrapped) refl
+  where
+    zn : 0 < n
+    zn = some-slots (h .slab-is .sound)
+
+    b : ℕ
+    b = a + k
+
+    full : stamp (r .slab) ((a + k) % n) ≢ 0
+    full e =
+        let p : 0 < (a + k) * d = mul-pos (omega arith) (h .slab-is .long) in
+        omega (arith, sym (h .stamps .has (a + k) (omega arith) (omega arith) (omega (arith, zn))) ∙ e)
+
+    go : (w : Bool) → r .wrapped ≡ w → Reads r n a (suc k)
+    go true e =
+        let far : n ≤ a + suc k = h .flag .wrapped-far (rw e tt) in
+        let near : n ≤ suc (a + k) = omega arith in
+        let st : suc ((a + k) % n) % n ≡ (suc (a + k) - n) % n = sym (suc-mod (a + k) n) ∙ mod-eq-sub-mod near in
+        record {
+          from = suc (a + k) - n;
+          many = n;
+          order-is = order-round r n ((a + k) % n) (h .cursor-is) full e (h .slab-is .sound .slots-is) ∙ rw st (walk-is n (suc (a + k) - n) n);
+          ends = omega arith;
+          fits = omega arith;
+          back = omega arith;
+        }
+    go false e =
+        let u : a + suc k - 1 ≡ a + k = omega arith in
+        let near : (a + k) / n * n ≤ max a (a + suc k - n) = rw u at (h .flag .else-near (rw e tt)) in
+        record {
+          from = (a + k) / n * n;
+          many = suc ((a + k) % n);
+          order-is = order-line r n ((a + k) % n) (h .cursor-is) full e (h .slab-is .sound .slots-is)
+              ∙ ap (λ (i : ℕ). walk n i (suc ((a + k) % n))) (sym (mul-mod-left ((a + k) / n) n)) ∙ walk-is n ((a + k) / n * n) (suc ((a + k) % n));
+          ends = omega (arith, mod-add-div' (a + k) n);
+          fits = mod-lt (a + k) zn;
+          back = near;
+        }
+
+-- ---- where the flag is not set, no slot above the cursor holds a stamp
+
+pub above-fresh : (r : Ring) (n m d a k : ℕ) → State r n m d a (suc k) → r .wrapped ≡ false → (i : ℕ) → cursor (r .slab) < i → i < n → stamp (r .slab) i ≡ 0
+unfolding newestSlot
+above-fresh r n m d a k h w i lo hi =
+    h .stamps .none i hi (λ q x y e. clash (a + k) ((a + k) / n) q (q / n) (rw (h .cursor-is) at lo) e (mod-add-div' (a + k) n) (mod-add-div' q n) x (omega arith) near)
+  where
+    u : a + suc k - 1 ≡ a + k
+    u = omega arith
+
+    near : (a + k) / n * n ≤ max a (suc (a + k) - n)
+    near = let v : a + suc k ≡ suc (a + k) = omega arith in rw (u, v) at (h .flag .else-near (rw w tt))
+
+    clash : (b x q y : ℕ) → b % n < i → q % n ≡ i → b % n + x * n ≡ b → q % n + y * n ≡ q → a ≤ q → q ≤ b → x * n ≤ max a (suc b - n) → ⊥
+    clash b x q y l e f g p s near = go (decLt y x)
+      where
+        go : Dec (y < x) → ⊥
+        go (yes c) = omega (arith, mul-le-mul-right n c)
+        go (no c) = let c' : x ≤ y = omega arith in omega (arith, mul-le-mul-right n c')
+
+-- so a stamp above the cursor tells of the flag. With one slot there is no slot above it, and the flag stays as it is
+pub above-wrapped : (r : Ring) (n m d a k : ℕ) → State r n m d a (suc k) → (i : ℕ) → cursor (r .slab) < i → i < n → stamp (r .slab) i ≢ 0 → r .wrapped ≡ true
+above-wrapped r n m d a k h i lo hi ne = go (r .wrapped) refl
+  where
+    go : (w : Bool) → r .wrapped ≡ w → r .wrapped ≡ true
+    go true e = e
+    go false e = absurd (ne (above-fresh r n m d a k h e i lo hi))

@@ -1,0 +1,130 @@
+-- A reader's points. The model has them as the unfolding of the reader's step; here they are the handed-out slots of the walk from the reader's place, in
+-- order, each once. Code that reads, and everything that is said of a query's points, goes through this law. Assumes nothing.
+use Prim.Native.Nat.{ℕ, zero, suc, _-_, _%_, _≤_, _<_}
+use native.Mathlib.Nat.{mod-lt}
+use native.Mathlib.Omega.{arith}
+use mathlib.Core.Path.{_≡_, refl, sym, ap, _∙_}
+use mathlib.Core.Bool.{Bool, true, false, _&&_, cond}
+use mathlib.Core.List.{List, [], _∷_, _++_}
+use lib.Dec.{leb, ltb}
+use lib.ListN.{length}
+use Rattle.model.specs.declared.Place.{Place}
+use Rattle.model.specs.declared.Point.{Point}
+use Rattle.model.specs.Layout.{slabLength}
+use Rattle.model.specs.Ring.{Ring, slots, series, cursor, stamp, cell, walk, isEmpty, firstPlace, order}
+use Rattle.model.specs.Read.{Reader, isHanded, stepped, handed, stepFrom, readable, step, andThen, pointsFrom, pointsOf}
+use Rattle.model.specs.Query.{readerOn}
+use Rattle.laws.specs.Tests.{yes-le, yes-lt, and-left, and-right, lt-is}
+use Rattle.rings.specs.Sound.{Sound, some-slots, header-in}
+
+unfoldable pub keep : Bool → Point → List Point → List Point
+keep true p ps = p ∷ ps
+keep false p ps = ps
+
+-- the points of column c in these slots
+unfoldable pub pointsIn : List ℕ → ℕ → ℕ → ℕ → List ℕ → List Point
+pointsIn s c start end [] = []
+pointsIn s c start end (i ∷ is) = keep (isHanded s c start end i) (record { stamp = stamp s i; value = cell s c i }) (pointsIn s c start end is)
+
+-- the points of a ring's column
+unfoldable pub points : Ring → ℕ → ℕ → ℕ → List Point
+points r c start end = pointsIn (r .slab) c start end (order r)
+
+pub points-append : (s : List ℕ) (c start end : ℕ) (is js : List ℕ) → pointsIn s c start end (is ++ js) ≡ pointsIn s c start end is ++ pointsIn s c start end js
+unfolding pointsIn keep
+points-append s c start end [] js = refl
+points-append s c start end (i ∷ is) js =
+    ap (keep (isHanded s c start end i) (record { stamp = stamp s i; value = cell s c i })) (points-append s c start end is js)
+    ∙ push (isHanded s c start end i) (record { stamp = stamp s i; value = cell s c i }) (pointsIn s c start end is) (pointsIn s c start end js)
+  where
+    push : (b : Bool) (p : Point) (ps qs : List Point) → keep b p (ps ++ qs) ≡ keep b p ps ++ qs
+    push true p ps qs = refl
+    push false p ps qs = refl
+
+-- ---- one step
+
+module _ (s : List ℕ) (c start end : ℕ) where
+  abbrev from : ℕ → ℕ → List Point
+  from i k = pointsIn s c start end (walk (slots s) i k)
+
+  -- a step from slot i on with k left goes to a slot of the ring, takes at least one of the k, and hands out the first point, if there is one
+  record Steps (i k : ℕ) : Type 0 where
+    slot-in : stepFrom s c start end i k .place .slot < slots s
+    fewer : stepFrom s c start end i k .place .left ≤ k - 1
+    first : from i k ≡ andThen (stepFrom s c start end i k .next) (from (stepFrom s c start end i k .place .slot) (stepFrom s c start end i k .place .left))
+
+  steps : (k i : ℕ) → i < slots s → Steps i k
+  unfolding stepFrom stepped walk pointsIn andThen keep handed
+  steps zero i h = record { slot-in = h; fewer = omega arith; first = refl }
+  steps (suc k) i h = go (isHanded s c start end i) refl (steps k (suc i % slots s) nx)
+    where
+      nx : suc i % slots s < slots s
+      nx = mod-lt (suc i) (omega arith)
+
+      go : (b : Bool) → isHanded s c start end i ≡ b → Steps (suc i % slots s) k → Steps i (suc k)
+      go true e r = record { slot-in = rw e nx; fewer = rw e (omega arith); first = rw e }
+      go false e r = record { slot-in = rw e (r .slot-in); fewer = rw e (omega (arith, r .fewer)); first = rw e (r .first) }
+
+  readable-next : (i j : ℕ) → readable s c i ≡ true → j < slots s → readable s c j ≡ true
+  unfolding readable
+  readable-next i j h l = rw (and-left (leb 64 (length s) && leb (slabLength (slots s) (series s)) (length s) && ltb c (series s)) (ltb i (slots s)) h) (yes-lt j (slots s) l)
+
+  readable-slot : (i : ℕ) → readable s c i ≡ true → i < slots s
+  unfolding readable
+  readable-slot i h = lt-is i (slots s) (and-right (leb 64 (length s) && leb (slabLength (slots s) (series s)) (length s) && ltb c (series s)) (ltb i (slots s)) h)
+
+  -- ---- all steps
+
+  -- f steps, for at most f slots left
+  pub from-is : (f : ℕ) (p : Place) → p .left ≤ f → readable s c (p .slot) ≡ true → pointsFrom f s c start end p ≡ pointsIn s c start end (walk (slots s) (p .slot) (p .left))
+  unfolding pointsFrom step walk pointsIn
+  from-is zero p h r = none (p .left) h
+    where
+      none : (k : ℕ) → k ≤ 0 → [] ≡ pointsIn s c start end (walk (slots s) (p .slot) k)
+      none zero l = refl
+      none (suc k) l = absurd (omega arith)
+  from-is (suc f) p h r =
+      let w = steps (p .left) (p .slot) (readable-slot (p .slot) r) in
+      let d = stepFrom s c start end (p .slot) (p .left) in
+      rw (here r) (ap (andThen (d .next)) (from-is f (d .place) (omega (arith, w .fewer)) (readable-next (p .slot) (d .place .slot) r (w .slot-in))) ∙ sym (w .first))
+    where
+      here : readable s c (p .slot) ≡ true → step s c start end p ≡ stepFrom s c start end (p .slot) (p .left)
+      here e = rw e
+
+-- a reader that can be read
+pub points-are : (r : Reader) → readable (r .slab) (r .column) (r .place .slot) ≡ true
+    → pointsOf r ≡ pointsIn (r .slab) (r .column) (r .start) (r .end) (walk (slots (r .slab)) (r .place .slot) (r .place .left))
+unfolding pointsOf
+points-are r h = from-is (r .slab) (r .column) (r .start) (r .end) (r .place .left) (r .place) (omega arith) h
+
+-- one that can't hands out nothing
+pub points-unreadable : (r : Reader) → readable (r .slab) (r .column) (r .place .slot) ≡ false → pointsOf r ≡ []
+unfolding pointsOf pointsFrom step stepped andThen
+points-unreadable r h = go (r .place .left)
+  where
+    go : (k : ℕ) → pointsFrom k (r .slab) (r .column) (r .start) (r .end) (r .place) ≡ []
+    go zero = refl
+    go (suc k) = rw h
+
+-- ---- a query's reader
+
+pub readable-sound : (s : List ℕ) (n m d c i : ℕ) → Sound s n m d → c < m → i < n → readable s c i ≡ true
+unfolding readable
+readable-sound s n m d c i h hc hi =
+    rw (h .slots-is, h .series-is, yes-le 64 (length s) (header-in h), yes-le (slabLength n m) (length s) (omega (arith, h .whole)), yes-lt c m hc) (yes-lt i n hi)
+
+first-in : (r : Ring) (n m d : ℕ) → Sound (r .slab) n m d → firstPlace r .slot < n
+unfolding firstPlace
+first-in r n m d h = go (isEmpty (r .slab)) (r .wrapped)
+  where
+    go : (x y : Bool)
+        → cond {A = Place} x (record { slot = 0; left = 0 }) (cond y (record { slot = suc (cursor (r .slab)) % slots (r .slab); left = slots (r .slab) }) (record { slot = 0; left = suc (cursor (r .slab)) })) .slot < n
+    go true y = some-slots h
+    go false true = rw (h .slots-is) (mod-lt (suc (cursor (r .slab))) (some-slots h))
+    go false false = some-slots h
+
+-- the reader of a query of a ring's column hands out the column's points
+pub reader-points : (r : Ring) (n m d c start end : ℕ) → Sound (r .slab) n m d → c < m → pointsOf (readerOn r c start end) ≡ points r c start end
+unfolding readerOn points order
+reader-points r n m d c start end h hc =
+    points-are (record { slab = r .slab; column = c; start = start; end = end; place = firstPlace r }) (readable-sound (r .slab) n m d c (firstPlace r .slot) h hc (first-in r n m d h))
