@@ -27,7 +27,8 @@ unfoldable pub newestSlot : ℕ → ℕ → ℕ → ℕ
 newestSlot n a zero = 0
 newestSlot n a (suc k) = (a + k) % n
 
--- the flag after the e numbers from a on: where it is set, n numbers are behind the newest; where it is not, none that is held stands above the cursor
+-- the flag after the e numbers from a on: where it is set, the n slots from the one behind the cursor on are those of the n numbers up to the newest; where
+-- it is not, the slots from 0 to the cursor have every held number
 pub record Flag (n a e : ℕ) (w : Bool) : Type 0 where
   pub wrapped-far : T w → n ≤ a + e
   pub else-near : T (not w) → (a + e - 1) / n * n ≤ max a (a + e - n)
@@ -51,10 +52,10 @@ pub record Blank (r : Ring) (n m d : ℕ) : Type 0 where
 flag-none : (n a : ℕ) → Flag n a 0 false
 flag-none n a = record { wrapped-far = λ t. absurd t; else-near = λ t. omega (arith, div-mul-le-self (a + 0 - 1) n) }
 
--- it may be the first number of any ring
-pub blank-state : (r : Ring) (n m d a : ℕ) → Blank r n m d → State r n m d a 0
+-- any number may be its first
+pub blank-state : {r : Ring} {n m d : ℕ} (a : ℕ) → Blank r n m d → State r n m d a 0
 unfolding newestSlot
-blank-state r n m d a h = record {
+blank-state {r} {n} {m} {d} a h = record {
   slab-is = h .slab-is;
   cursor-is = h .cursor-is;
   stamps = keeps-start 0 (stamp (r .slab)) n a (λ (q : ℕ). q * d) (h .stamps);
@@ -139,9 +140,9 @@ pub record Reads (r : Ring) (n a e : ℕ) : Type 0 where
   pub fits : many ≤ n
   pub back : from ≤ firstHeld n a e
 
-pub reads : (r : Ring) (n m d a e : ℕ) → State r n m d a e → 0 < a → Reads r n a e
+pub reads : {r : Ring} {n m d a e : ℕ} → State r n m d a e → 0 < a → Reads r n a e
 unfolding newestSlot firstHeld
-reads r n m d a zero h z = record {
+reads {r} {n} {m} {d} {a} {e = zero} h z = record {
   from = a;
   many = 0;
   order-is = order-none r (rw (h .cursor-is) (h .stamps .none 0 (some-slots (h .slab-is .sound)) (λ q x y. absurd (omega arith)))) ∙ unfold slotsOf in refl;
@@ -149,13 +150,10 @@ reads r n m d a zero h z = record {
   fits = omega arith;
   back = omega arith;
 }
-reads r n m d a (suc k) h z = go (r .wrapped) refl
+reads {r} {n} {m} {d} {a} {e = suc k} h z = go (r .wrapped) refl
   where
     zn : 0 < n
     zn = some-slots (h .slab-is .sound)
-
-    b : ℕ
-    b = a + k
 
     full : stamp (r .slab) ((a + k) % n) ≢ 0
     full e =
@@ -190,9 +188,9 @@ reads r n m d a (suc k) h z = go (r .wrapped) refl
 
 -- ---- where the flag is not set, no slot above the cursor holds a stamp
 
-pub above-fresh : (r : Ring) (n m d a k : ℕ) → State r n m d a (suc k) → r .wrapped ≡ false → (i : ℕ) → cursor (r .slab) < i → i < n → stamp (r .slab) i ≡ 0
+pub above-fresh : {r : Ring} {n m d a k : ℕ} → State r n m d a (suc k) → r .wrapped ≡ false → (i : ℕ) → cursor (r .slab) < i → i < n → stamp (r .slab) i ≡ 0
 unfolding newestSlot
-above-fresh r n m d a k h w i lo hi =
+above-fresh {r} {n} {m} {d} {a} {k} h w i lo hi =
     h .stamps .none i hi (λ q x y e. clash (a + k) ((a + k) / n) q (q / n) (rw (h .cursor-is) at lo) e (mod-add-div' (a + k) n) (mod-add-div' q n) x (omega arith) near)
   where
     u : a + suc k - 1 ≡ a + k
@@ -209,9 +207,9 @@ above-fresh r n m d a k h w i lo hi =
         go (no c) = let c' : x ≤ y = omega arith in omega (arith, mul-le-mul-right n c')
 
 -- so a stamp above the cursor tells of the flag. With one slot there is no slot above it, and the flag stays as it is
-pub above-wrapped : (r : Ring) (n m d a k : ℕ) → State r n m d a (suc k) → (i : ℕ) → cursor (r .slab) < i → i < n → stamp (r .slab) i ≢ 0 → r .wrapped ≡ true
-above-wrapped r n m d a k h i lo hi ne = go (r .wrapped) refl
+pub above-wrapped : {r : Ring} {n m d a k : ℕ} → State r n m d a (suc k) → (i : ℕ) → cursor (r .slab) < i → i < n → stamp (r .slab) i ≢ 0 → r .wrapped ≡ true
+above-wrapped {r} h i lo hi ne = go (r .wrapped) refl
   where
     go : (w : Bool) → r .wrapped ≡ w → r .wrapped ≡ true
     go true e = e
-    go false e = absurd (ne (above-fresh r n m d a k h e i lo hi))
+    go false e = absurd (ne (above-fresh h e i lo hi))

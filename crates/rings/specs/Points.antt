@@ -10,6 +10,7 @@ use lib.Dec.{leb, ltb}
 use lib.ListN.{length}
 use Rattle.model.specs.declared.Place.{Place}
 use Rattle.model.specs.declared.Point.{Point}
+use Rattle.model.specs.declared.Stepped.{Stepped}
 use Rattle.model.specs.Layout.{slabLength}
 use Rattle.model.specs.Ring.{Ring, slots, series, cursor, stamp, cell, walk, isEmpty, firstPlace, order}
 use Rattle.model.specs.Read.{Reader, isHanded, stepped, handed, stepFrom, readable, step, andThen, pointsFrom, pointsOf}
@@ -106,16 +107,42 @@ points-unreadable r h = go (r .place .left)
     go zero = refl
     go (suc k) = rw h
 
+-- ---- step by step
+
+abbrev pub oneStep : Reader → Stepped
+oneStep r = step (r .slab) (r .column) (r .start) (r .end) (r .place)
+
+-- the reader after a step
+abbrev pub stepOn : Reader → Reader
+stepOn r = record { slab = r .slab; column = r .column; start = r .start; end = r .end; place = oneStep r .place }
+
+module _ (r : Reader) (h : readable (r .slab) (r .column) (r .place .slot) ≡ true) where
+  found : oneStep r ≡ stepFrom (r .slab) (r .column) (r .start) (r .end) (r .place .slot) (r .place .left)
+  unfolding step
+  found = rw h
+
+  here : Steps (r .slab) (r .column) (r .start) (r .end) (r .place .slot) (r .place .left)
+  here = steps (r .slab) (r .column) (r .start) (r .end) (r .place .left) (r .place .slot) (readable-slot (r .slab) (r .column) (r .start) (r .end) (r .place .slot) h)
+
+  -- it can still be read, and has fewer slots left
+  pub step-place : (readable (r .slab) (r .column) (oneStep r .place .slot) ≡ true) × (oneStep r .place .left ≤ r .place .left - 1)
+  step-place =
+      rw found (readable-next (r .slab) (r .column) (r .start) (r .end) (r .place .slot) (stepFrom (r .slab) (r .column) (r .start) (r .end) (r .place .slot) (r .place .left) .place .slot) h (here .slot-in), here .fewer)
+
+  -- the points are what the step hands out, before the points from there on
+  pub points-step : pointsOf r ≡ andThen (oneStep r .next) (pointsOf (stepOn r))
+  points-step = points-are r h ∙ rw (points-are (stepOn r) (step-place .0), found) (here .first)
+
 -- ---- a query's reader
 
-pub readable-sound : (s : List ℕ) (n m d c i : ℕ) → Sound s n m d → c < m → i < n → readable s c i ≡ true
+pub readable-sound : {s : List ℕ} {n m d : ℕ} → Sound s n m d → (c i : ℕ) → c < m → i < n → readable s c i ≡ true
 unfolding readable
-readable-sound s n m d c i h hc hi =
+readable-sound {s} {n} {m} h c i hc hi =
     rw (h .slots-is, h .series-is, yes-le 64 (length s) (header-in h), yes-le (slabLength n m) (length s) (omega (arith, h .whole)), yes-lt c m hc) (yes-lt i n hi)
 
-first-in : (r : Ring) (n m d : ℕ) → Sound (r .slab) n m d → firstPlace r .slot < n
+first-in : (r : Ring) {n m d : ℕ} → Sound (r .slab) n m d → firstPlace r .slot < n
 unfolding firstPlace
-first-in r n m d h = go (isEmpty (r .slab)) (r .wrapped)
+first-in r {n} h = go (isEmpty (r .slab)) (r .wrapped)
   where
     go : (x y : Bool)
         → cond {A = Place} x (record { slot = 0; left = 0 }) (cond y (record { slot = suc (cursor (r .slab)) % slots (r .slab); left = slots (r .slab) }) (record { slot = 0; left = suc (cursor (r .slab)) })) .slot < n
@@ -124,7 +151,7 @@ first-in r n m d h = go (isEmpty (r .slab)) (r .wrapped)
     go false false = some-slots h
 
 -- the reader of a query of a ring's column hands out the column's points
-pub reader-points : (r : Ring) (n m d c start end : ℕ) → Sound (r .slab) n m d → c < m → pointsOf (readerOn r c start end) ≡ points r c start end
+pub reader-points : (r : Ring) {n m d : ℕ} → Sound (r .slab) n m d → (c start end : ℕ) → c < m → pointsOf (readerOn r c start end) ≡ points r c start end
 unfolding readerOn points order
-reader-points r n m d c start end h hc =
-    points-are (record { slab = r .slab; column = c; start = start; end = end; place = firstPlace r }) (readable-sound (r .slab) n m d c (firstPlace r .slot) h hc (first-in r n m d h))
+reader-points r h c start end hc =
+    points-are (record { slab = r .slab; column = c; start = start; end = end; place = firstPlace r }) (readable-sound h c (firstPlace r .slot) hc (first-in r h))

@@ -1,22 +1,23 @@
 -- Reading a ring that took numbers without gaps: its ends are the first held number's stamp and the newest's; a complete column gives a point for each
 -- held number in the range, ascending; a column without a value gives none. Assumes nothing.
-use Prim.Native.Nat.{ℕ, zero, suc, _+_, _-_, _*_, _%_, _≤_, _<_, max}
+use Prim.Native.Nat.{ℕ, zero, suc, _+_, _-_, _*_, _%_, _≤_, _<_, max, min}
 use native.Mathlib.Nat.{mod-lt, mul-pos, mul-le-mul-right}
 use native.Mathlib.Omega.{arith}
 use native.Mathlib.Decide.{decLt}
 use mathlib.Core.Path.{_≡_, refl, ap, _∙_}
-use mathlib.Core.Bool.{Bool, true, false, _&&_}
+use mathlib.Core.Bool.{false, _&&_, and-false}
 use mathlib.Core.List.{List, [], _∷_, _++_, append-nil}
 use lib.Dec.{leb, ltb}
 use Rattle.model.specs.declared.End.the-variants.{At, Missing}
 use Rattle.model.specs.declared.Point.{Point}
 use Rattle.model.specs.Layout.{freshValue}
 use Rattle.model.specs.Ring.{Ring, cursor, stamp, cell, order, isNaN, newest, oldest, endOf, orStamp, firstStamp}
-use Rattle.model.specs.Read.{isHanded}
+use Rattle.model.specs.Read.{isHanded, pointsOf}
+use Rattle.model.specs.Query.{readerOn}
 use Rattle.laws.specs.Tests.{yes-le, yes-lt, no-le, no-lt}
 use Rattle.rings.specs.Numbers.{slotsOf, slots-cut, mul-lt}
 use Rattle.rings.specs.Sound.{some-slots}
-use Rattle.rings.specs.Points.{keep, pointsIn, points, points-append}
+use Rattle.rings.specs.Points.{keep, pointsIn, points, points-append, reader-points}
 use Rattle.rings.specs.Column.{Col, keeps-before}
 use Rattle.rings.specs.Hold.{State, newestSlot, firstHeld, order-none, Reads, reads}
 
@@ -82,15 +83,11 @@ module _ (s : List ℕ) (n c lo hi : ℕ) where
 
   out-fresh : (i : ℕ) → cell s c i ≡ freshValue → isHanded s c lo hi i ≡ false
   unfolding isHanded isNaN freshValue
-  out-fresh i e = rw e (shut (leb lo (stamp s i) && ltb (stamp s i) hi))
-    where
-      shut : (x : Bool) → x && false ≡ false
-      shut true = refl
-      shut false = refl
+  out-fresh i e = rw e (and-false (leb lo (stamp s i) && ltb (stamp s i) hi))
 
 -- ---- the stamps in reading order
 
-module _ (r : Ring) (n m d a e : ℕ) (st : State r n m d a e) (R : Reads r n a e) where
+module _ {r : Ring} {n m d a e : ℕ} (st : State r n m d a e) (R : Reads r n a e) where
   zn : 0 < n
   zn = some-slots (st .slab-is .sound)
 
@@ -109,22 +106,26 @@ module _ (r : Ring) (n m d a e : ℕ) (st : State r n m d a e) (R : Reads r n a 
       R .order-is ∙ slots-cut n (R .from) (R .many) g (omega (arith, R .back)) (omega (arith, R .ends))
       ∙ ap (λ (l : List ℕ). slotsOf n (R .from) (g - R .from) ++ l) (ap (slotsOf n g) j ∙ slots-cut n g (a + e - g) h y (omega arith) ∙ ap (λ (x : ℕ). slotsOf n g (h - g) ++ slotsOf n h (x - h)) i)
 
-  module _ (lo hi g h : ℕ) (rg : InRange d lo hi (firstHeld n a e) (a + e) g h) where
-    -- a held number out of the range
-    pub held-out : (p : ℕ) → R .from ≤ p → a ≤ p → p < a + e → p < g → (leb lo (stamp (r .slab) (p % n)) && ltb (stamp (r .slab) (p % n)) hi) ≡ false
+  module _ {lo hi g h : ℕ} (rg : InRange d lo hi (firstHeld n a e) (a + e) g h) where
+    -- a held number before g
+    held-out : (p : ℕ) → R .from ≤ p → a ≤ p → p < a + e → p < g → (leb lo (stamp (r .slab) (p % n)) && ltb (stamp (r .slab) (p % n)) hi) ≡ false
     unfolding firstHeld
     held-out p x y z l = rw (read-held p x y z, no-le lo (p * d) (rg .early p (omega (arith, R .ends, R .fits)) l))
 
-    pub held-late : (p : ℕ) → h ≤ p → p < a + e → (leb lo (stamp (r .slab) (p % n)) && ltb (stamp (r .slab) (p % n)) hi) ≡ false
+    -- a number that is read before g: fresh, or too early
+    pub early-out : 0 < lo → (p : ℕ) → R .from ≤ p → p < g → (leb lo (stamp (r .slab) (p % n)) && ltb (stamp (r .slab) (p % n)) hi) ≡ false
+    early-out zl p x y = go (decLt p a)
+      where
+        go : Dec (p < a) → (leb lo (stamp (r .slab) (p % n)) && ltb (stamp (r .slab) (p % n)) hi) ≡ false
+        go (yes q) = rw (read-fresh p x q, no-le lo 0 zl)
+        go (no q) = held-out p x (omega arith) (omega (arith, rg .rising, rg .last)) y
+
+    pub late-out : (p : ℕ) → h ≤ p → p < a + e → (leb lo (stamp (r .slab) (p % n)) && ltb (stamp (r .slab) (p % n)) hi) ≡ false
     unfolding firstHeld
-    held-late p l z =
+    late-out p l z =
         let f : a ≤ p = omega (arith, rg .first, rg .rising) in
         let b : R .from ≤ p = omega (arith, rg .first, rg .rising, R .back) in
-        rw (read-held p b f z, no-lt (p * d) hi (rg .late p l z)) (shut (leb lo (p * d)))
-      where
-        shut : (x : Bool) → x && false ≡ false
-        shut true = refl
-        shut false = refl
+        rw (read-held p b f z, no-lt (p * d) hi (rg .late p l z)) (and-false (leb lo (p * d)))
 
     pub held-in : (p : ℕ) → g ≤ p → p < h → (stamp (r .slab) (p % n) ≡ p * d) × (lo ≤ p * d) × (p * d < hi)
     unfolding firstHeld
@@ -134,39 +135,52 @@ module _ (r : Ring) (n m d a e : ℕ) (st : State r n m d a e) (R : Reads r n a 
 
 -- ---- the points of a column
 
-module _ (r : Ring) (n m d a e : ℕ) (st : State r n m d a e) (pa : 0 < a) (c : ℕ) where
+module _ {r : Ring} {n m d a e : ℕ} (st : State r n m d a e) (pa : 0 < a) (c : ℕ) where
   -- a column without a value
   pub points-none : (lo hi : ℕ) → ((i : ℕ) → i < n → cell (r .slab) c i ≡ freshValue) → points r c lo hi ≡ []
   unfolding points
   points-none lo hi h =
-      let R = reads r n m d a e st pa in
+      let R = reads st pa in
       rw (R .order-is) (skips (r .slab) n c lo hi (R .from) (R .many) (λ p x y. out-fresh (r .slab) n c lo hi (p % n) (h (p % n) (mod-lt p (some-slots (st .slab-is .sound))))))
 
   -- a complete column without a NaN
-  pub points-range : (X : ℕ → ℕ) (lo hi g h : ℕ) → Col (cell (r .slab) c) n a e X → ((q : ℕ) → g ≤ q → q < h → isNaN (X q) ≡ false)
+  pub points-range : {lo hi g h : ℕ} (X : ℕ → ℕ) → Col (cell (r .slab) c) n a e X → ((q : ℕ) → g ≤ q → q < h → isNaN (X q) ≡ false)
       → InRange d lo hi (firstHeld n a e) (a + e) g h → points r c lo hi ≡ pts X d g (h - g)
   unfolding points firstHeld
-  points-range X lo hi g h col num rg =
+  points-range {lo} {hi} {g} {h} X col num rg =
       rw (
-        read-cut r n m d a e st R g h (rg .first) (rg .rising) (rg .last),
+        read-cut st R g h (rg .first) (rg .rising) (rg .last),
         points-append (r .slab) c lo hi (slotsOf n (R .from) (g - R .from)) (slotsOf n g (h - g) ++ slotsOf n h (a + e - h)),
         points-append (r .slab) c lo hi (slotsOf n g (h - g)) (slotsOf n h (a + e - h)),
         skips (r .slab) n c lo hi (R .from) (g - R .from) (λ p x y. before p x (omega arith) (decLt p a)),
-        skips (r .slab) n c lo hi h (a + e - h) (λ p x y. out-stamp (r .slab) n c lo hi (p % n) (held-late r n m d a e st R lo hi g h rg p x (omega arith))),
+        skips (r .slab) n c lo hi h (a + e - h) (λ p x y. out-stamp (r .slab) n c lo hi (p % n) (late-out st R rg p x (omega arith))),
         takes (r .slab) n c lo hi X d g (h - g) (λ p x y. inside p x (omega arith)),
       ) (append-nil (pts X d g (h - g)))
     where
       R : Reads r n a e
-      R = reads r n m d a e st pa
+      R = reads st pa
 
       before : (p : ℕ) → R .from ≤ p → p < g → Dec (p < a) → isHanded (r .slab) c lo hi (p % n) ≡ false
       before p x y (yes q) = out-fresh (r .slab) n c lo hi (p % n) (keeps-before (some-slots (st .slab-is .sound)) col p q (omega (arith, R .ends, R .fits)))
-      before p x y (no q) = out-stamp (r .slab) n c lo hi (p % n) (held-out r n m d a e st R lo hi g h rg p x (omega arith) (omega (arith, rg .rising, rg .last)) y)
+      before p x y (no q) = out-stamp (r .slab) n c lo hi (p % n) (held-out st R rg p x (omega arith) (omega (arith, rg .rising, rg .last)) y)
 
       inside : (p : ℕ) → g ≤ p → p < h → (stamp (r .slab) (p % n) ≡ p * d) × (cell (r .slab) c (p % n) ≡ X p) × (isNaN (X p) ≡ false) × (lo ≤ p * d) × (p * d < hi)
       inside p x y =
-          let i = held-in r n m d a e st R lo hi g h rg p x y in
+          let i = held-in st R rg p x y in
           (i .0, col .has p (omega (arith, rg .first)) (omega (arith, rg .last)) (omega (arith, rg .first)), num p x y, i .1, i .2)
+
+  -- what a query of such a column over all time hands out: a point for each held number, the newest last
+  pub all-points : (X : ℕ → ℕ) (hi : ℕ) → c < m → Col (cell (r .slab) c) n a e X → ((q : ℕ) → a ≤ q → q < a + e → isNaN (X q) ≡ false) → ((q : ℕ) → q < a + e → q * d < hi)
+      → pointsOf (readerOn r c 0 hi) ≡ pts X d (firstHeld n a e) (a + e - firstHeld n a e)
+  all-points X hi hc col num top =
+      let l : (a ≤ firstHeld n a e) × (firstHeld n a e ≤ a + e) = unfold firstHeld in (omega arith, omega arith) in
+      reader-points r (st .slab-is .sound) c 0 hi hc
+      ∙ points-range X col (λ q x y. num q (omega (arith, l .0)) y) (range-all d hi (firstHeld n a e) (a + e) (l .1) top)
+
+-- as many as the ring took, or has slots
+pub held-count : (n a e : ℕ) → a + e - firstHeld n a e ≡ min e n
+unfolding firstHeld
+held-count n a e = omega arith
 
 -- ---- the ends
 
@@ -181,13 +195,13 @@ or-here zero t h = absurd (omega arith)
 or-here (suc x) t h = refl
 
 -- an empty ring lacks both
-pub no-ends : (r : Ring) (n m d a : ℕ) → State r n m d a 0 → (newest r ≡ Missing) × (oldest r ≡ Missing)
+pub no-ends : {r : Ring} {n m d a : ℕ} → State r n m d a 0 → (newest r ≡ Missing) × (oldest r ≡ Missing)
 unfolding newest oldest endOf firstStamp newestSlot
-no-ends r n m d a st =
+no-ends {r} st =
     let e : stamp (r .slab) (cursor (r .slab)) ≡ 0 = rw (st .cursor-is) (st .stamps .none 0 (some-slots (st .slab-is .sound)) (λ q x y. absurd (omega arith))) in
     (rw e, rw (order-none r e))
 
-module _ (r : Ring) (n m d a k : ℕ) (st : State r n m d a (suc k)) (pa : 0 < a) where
+module _ {r : Ring} {n m d a k : ℕ} (st : State r n m d a (suc k)) (pa : 0 < a) where
   pub newest-is : newest r ≡ At ((a + k) * d)
   unfolding newest newestSlot
   newest-is =
@@ -204,13 +218,13 @@ module _ (r : Ring) (n m d a k : ℕ) (st : State r n m d a (suc k)) (pa : 0 < a
   unfolding oldest firstHeld
   oldest-is =
       rw (
-        read-cut r n m d a (suc k) st R (max a (a + suc k - n)) (a + suc k) (omega arith) (omega arith) (omega arith),
-        first-skips (R .from) (g - R .from) (slotsOf n g (a + suc k - g) ++ slotsOf n (a + suc k) (a + suc k - (a + suc k))) (λ p x y. read-fresh r n m d a (suc k) st R p x (omega (arith, R .ends, R .fits))),
+        read-cut st R (max a (a + suc k - n)) (a + suc k) (omega arith) (omega arith) (omega arith),
+        first-skips (R .from) (g - R .from) (slotsOf n g (a + suc k - g) ++ slotsOf n (a + suc k) (a + suc k - (a + suc k))) (λ p x y. read-fresh st R p x (omega (arith, R .ends, R .fits))),
         here,
       ) (end-at (g * d) pos)
     where
       R : Reads r n a (suc k)
-      R = reads r n m d a (suc k) st pa
+      R = reads st pa
 
       zn : 0 < n
       zn = some-slots (st .slab-is .sound)

@@ -14,7 +14,7 @@ use Rattle.rings.specs.Sound.{some-slots, slot-is, sound-write, wrote-so
 use Rattle.rings.specs.Column.{keeps-put}
 use Rattle.rings.specs.Hold.{Slab, Flag, State, newestSlot, flag-step}
 
-module _ (r : Ring) (es : List ColumnValue) (n m d q : ℕ) (h : Slab (r .slab) n m d) where
+module _ (r : Ring) (es : List ColumnValue) (q : ℕ) {n m d : ℕ} (h : Slab (r .slab) n m d) where
   slot-at : q * d / d % n ≡ q % n
   slot-at = rw (mul-div-cancel q (h .long))
 
@@ -32,27 +32,27 @@ module _ (r : Ring) (es : List ColumnValue) (n m d q : ℕ) (h : Slab (r .slab) 
       go i hi (yes e) = rw (e, at-number f b .stamp-is) b
       go i hi (no e) = rw (at-number f b .stamp-other i (rw (h .sound .slots-is) hi) e) (h .low i hi)
 
-module _ (r : Ring) (es : List ColumnValue) (n m d : ℕ) (f : Fit m es) where
+module _ {r : Ring} (es : List ColumnValue) {n m d : ℕ} (f : Fit m es) where
   -- number a + k, the next (e is k) or the newest again (e is k + 1)
-  pub step-at : (a e k : ℕ) → k ≤ e → e ≤ suc k → State r n m d a e → (a + k) * d < 2 ^ 63 → State (write r es ((a + k) * d)) n m d a (suc k)
+  pub step-at : {a e : ℕ} (k : ℕ) → k ≤ e → e ≤ suc k → State r n m d a e → (a + k) * d < 2 ^ 63 → State (write r es ((a + k) * d)) n m d a (suc k)
   unfolding newestSlot
-  step-at a e k from to h b =
+  step-at {a} {e} k from to h b =
       let s = h .slab-is in
-      let w = at-number r es n m d (a + k) s f b in
+      let w = at-number r es (a + k) s f b in
       let z : 0 < n = some-slots (s .sound) in
       record {
-        slab-is = slab-at r es n m d (a + k) s f b;
+        slab-is = slab-at r es (a + k) s f b;
         cursor-is = w .rest .cursor-is;
         stamps = keeps-put 0 (stamp (r .slab)) (stamp (write r es ((a + k) * d) .slab)) n a e k ((a + k) * d) (λ (q : ℕ). q * d) (λ (q : ℕ). q * d) z from to
             (w .stamp-is) (λ i hi ne. w .stamp-other i (rw (s .sound .slots-is) hi) ne) refl (λ q x y. refl) (h .stamps);
-        flag = subst (Flag n a (suc k)) (sym (flag-at r es n m d (a + k) s ∙ ap (λ (i : ℕ). r .wrapped || ltb ((a + k) % n) i) (h .cursor-is)))
+        flag = subst (Flag n a (suc k)) (sym (flag-at r es (a + k) s ∙ ap (λ (i : ℕ). r .wrapped || ltb ((a + k) % n) i) (h .cursor-is)))
             (flag-step n a e k (r .wrapped) z from to (h .flag));
       }
 
   -- the next number
-  pub step-new : (a e : ℕ) → State r n m d a e → (a + e) * d < 2 ^ 63 → State (write r es ((a + e) * d)) n m d a (suc e)
-  step-new a e h b = step-at a e e (omega arith) (omega arith) h b
+  pub step-new : {a e : ℕ} → State r n m d a e → (a + e) * d < 2 ^ 63 → State (write r es ((a + e) * d)) n m d a (suc e)
+  step-new {a} {e} h b = step-at e (omega arith) (omega arith) h b
 
   -- the number that the ring is at
-  pub step-same : (a e : ℕ) → State r n m d a (suc e) → (a + e) * d < 2 ^ 63 → State (write r es ((a + e) * d)) n m d a (suc e)
-  step-same a e h b = step-at a (suc e) e (omega arith) (omega arith) h b
+  pub step-same : {a e : ℕ} → State r n m d a (suc e) → (a + e) * d < 2 ^ 63 → State (write r es ((a + e) * d)) n m d a (suc e)
+  step-same {a} {e} h b = step-at e (omega arith) (omega arith) h b

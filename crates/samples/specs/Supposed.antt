@@ -1,0 +1,154 @@
+-- The supposition by its parts, and what it says of the samples: they are steady (Ticks), and their ticks are whole coarsest intervals where the last event is
+-- a run. Assumes nothing.
+use Prim.Native.Nat.{ℕ, zero, suc, _+_, _-_, _*_, _/_, _%_, _≤_, _<_}
+use native.Mathlib.Nat.{zero-mul, mul-pos, mul-div-cancel, le-of-mul-le-mul-right, lt-of-mul-lt-mul-right}
+use native.Mathlib.Omega.{arith}
+use mathlib.Core.Path.{_≡_, refl, sym, ap, _∙_, subst}
+use mathlib.Core.Bool.{Bool, true, false, _&&_}
+use mathlib.Core.List.{List, [], _∷_, _++_}
+use lib.Dec.{ltb, eqb}
+use Rattle.model.specs.Demand.{Sample, Event, samplesIn, firstOf, lastOf, ascending, all, count, isAt, used, gapless, ticks, isOffset, scheduled, supposed}
+use Rattle.laws.specs.Tests.{yes-le, and-left, and-right, split3, lt-is, eq-is}
+use Rattle.samples.specs.Lists.{all-at, find, asc-split, last-append, last-of, le-last, first-le-last, multiple}
+use Rattle.samples.specs.Ticks.{Steady}
+
+-- what is supposed of each sample
+abbrev pub fine : ℕ → List Sample → Sample → Bool
+fine d xs x = isOffset (x .value) && eqb (x .stamp % d) 0 && gapless (x .column) d (firstOf xs) (ticks d xs) xs
+
+pub record Parts (d D : ℕ) (es : List Event) : Type 0 where
+  pub first-pos : 0 < firstOf (samplesIn es)
+  pub first-whole : firstOf (samplesIn es) % D ≡ 0
+  pub ordered : ascending 0 (samplesIn es) ≡ true
+  pub all-fine : all (fine d (samplesIn es)) (samplesIn es) ≡ true
+  pub runs : scheduled d D 0 false es ≡ true
+
+pub parts : (d D : ℕ) (es : List Event) → supposed d D es ≡ true → Parts d D es
+unfolding supposed
+parts d D es h =
+    let xs = samplesIn es in
+    let a = ltb 0 (firstOf xs) in
+    let b = eqb (firstOf xs % D) 0 in
+    let c = ascending 0 xs in
+    let e = all (fine d xs) xs in
+    let f = scheduled d D 0 false es in
+    let u = split3 (a && b && c) e f h in
+    let v = split3 a b c (u .0) in
+    record {
+      first-pos = lt-is 0 (firstOf xs) (v .0);
+      first-whole = eq-is (firstOf xs % D) 0 (v .1);
+      ordered = v .2;
+      all-fine = u .1;
+      runs = u .2;
+    }
+
+-- ---- the number of ticks
+
+-- from the stamp f to the stamp l, d apart
+ticks-between : (d f l x : ℕ) → 0 < d → 0 < x → l + d ≡ f + x * d → suc ((l - f) / d) ≡ x
+ticks-between d f l zero zd zx e = absurd (omega arith)
+ticks-between d f l (suc y) zd zx e = let g : l - f ≡ y * d = omega arith in rw (g, mul-div-cancel y zd)
+
+-- all stamps up to the last lie before the end of its tick
+before-end : (d a w f l t : ℕ) → 0 < d → f ≡ a * d → l ≡ w * d → f ≤ l → t ≤ l → t < (a + suc ((l - f) / d)) * d
+before-end d a w f l t zd fa lw fl tl =
+    let aw : a ≤ w = le-of-mul-le-mul-right {k = d} (omega arith) zd in
+    let x : suc w ≡ a + (suc w - a) = omega arith in
+    let e : suc w * d ≡ (a + (suc w - a)) * d = ap (λ (v : ℕ). v * d) x in
+    rw (ticks-between d f l (suc w - a) zd (omega arith) (omega arith)) (omega arith)
+
+-- ---- the samples are steady
+
+gap-at : (c d t n i : ℕ) (xs : List Sample) → gapless c d t n xs ≡ true → i < n → count (isAt c (t + i * d)) xs ≡ 1
+unfolding gapless
+gap-at c d t zero i xs h l = absurd (omega arith)
+gap-at c d t (suc n) zero xs h l =
+    let e : t + 0 * d ≡ t = omega arith in
+    rw e (eq-is (count (isAt c t) xs) 1 (and-left (eqb (count (isAt c t) xs) 1) (gapless c d (t + d) n xs) h))
+gap-at c d t (suc n) (suc i) xs h l =
+    let e : t + suc i * d ≡ t + d + i * d = omega arith in
+    rw e (gap-at c d (t + d) n i xs (and-right (eqb (count (isAt c t) xs) 1) (gapless c d (t + d) n xs) h) (omega arith))
+
+module _ (d a : ℕ) (xs : List Sample) (zd : 0 < d) (first : firstOf xs ≡ a * d) (pos : 0 < firstOf xs) (asc : ascending 0 xs ≡ true)
+    (al : all (fine d xs) xs ≡ true) where
+  -- what is supposed of one sample
+  fine-parts : (x : Sample) (ys zs : List Sample) → xs ≡ ys ++ x ∷ zs
+      → (isOffset (x .value) ≡ true) × (eqb (x .stamp % d) 0 ≡ true) × (gapless (x .column) d (firstOf xs) (ticks d xs) xs ≡ true)
+  fine-parts x ys zs e =
+      split3 (isOffset (x .value)) (eqb (x .stamp % d) 0) (gapless (x .column) d (firstOf xs) (ticks d xs) xs)
+      (all-at (fine d xs) ys x zs (subst (λ (l : List Sample). all (fine d xs) l ≡ true) e al))
+
+  on-tick : (x : Sample) (ys zs : List Sample) → xs ≡ ys ++ x ∷ zs → x .stamp % d ≡ 0
+  on-tick x ys zs e = eq-is (x .stamp % d) 0 (fine-parts x ys zs e .1)
+
+  gap' : (c i : ℕ) → used c xs ≡ true → i < ticks d xs → count (isAt c ((a + i) * d)) xs ≡ 1
+  gap' c i us l =
+      let f = find c xs us in
+      let g : gapless c d (firstOf xs) (ticks d xs) xs ≡ true = subst (λ (k : ℕ). gapless k d (firstOf xs) (ticks d xs) xs ≡ true) (f .4)
+      (fine-parts (f .1) (f .0) (f .2) (f .3) .2) in
+      let e : (a + i) * d ≡ firstOf xs + i * d = rw first (omega arith) in
+      rw e (gap-at c d (firstOf xs) (ticks d xs) i xs g l)
+
+  last-tick : lastOf xs % d ≡ 0
+  last-tick = go xs refl
+    where
+      go : (l : List Sample) → xs ≡ l → lastOf xs % d ≡ 0
+      go [] e = absurd (unfold firstOf in (omega (arith, subst (λ (l : List Sample). 0 < firstOf l) e pos)))
+      go (x ∷ l) e =
+          let z = last-of x l in
+          subst (λ (v : ℕ). v % d ≡ 0) (sym (ap lastOf e ∙ z .3)) (on-tick (z .1) (z .0) [] (e ∙ z .2))
+
+  bound : (x : Sample) (ys zs : List Sample) → xs ≡ ys ++ x ∷ zs → x .stamp < (a + ticks d xs) * d
+  unfolding ticks
+  bound x ys zs e =
+      let s = asc-split 0 ys x zs (subst (λ (l : List Sample). ascending 0 l ≡ true) e asc) in
+      let l : lastOf xs ≡ lastOf (x ∷ zs) = ap lastOf e ∙ last-append ys x zs in
+      before-end d a (lastOf xs / d) (firstOf xs) (lastOf xs) (x .stamp) zd first (multiple (lastOf xs) d last-tick) (first-le-last 0 xs asc)
+      (omega (arith, le-last x zs (s .1)))
+
+  pub steady : Steady d a (ticks d xs) xs
+  steady = record {
+    long = zd;
+    ordered = from-first xs first asc;
+    gap = gap';
+    ends = λ x ys zs e. (bound x ys zs e, on-tick x ys zs e, fine-parts x ys zs e .0);
+  }
+    where
+      from-first : (l : List Sample) → firstOf l ≡ a * d → ascending 0 l ≡ true → ascending (a * d) l ≡ true
+      from-first [] e h = unfold ascending in refl
+      from-first (x ∷ l) e h =
+          unfold ascending in (rw (yes-le (a * d) (x .stamp) (low e)) (asc-split 0 [] x l h .1))
+        where
+          low : firstOf (x ∷ l) ≡ a * d → a * d ≤ x .stamp
+          low e = unfold firstOf in (omega arith)
+
+-- ---- whole coarsest intervals
+
+-- the first sample begins coarsest interval A, and the last ends the Z-th from there; ρ ticks make one
+pub record Spans (d D ρ : ℕ) (xs : List Sample) : Type 0 where
+  pub A : ℕ
+  pub Z : ℕ
+  pub A-pos : 0 < A
+  pub first-is : firstOf xs ≡ A * D
+  pub last-is : lastOf xs + d ≡ (A + Z) * D
+  pub ticks-are : ticks d xs ≡ Z * ρ
+
+pub spans : (d D ρ : ℕ) (xs : List Sample) → 0 < d → 0 < ρ → D ≡ ρ * d → 0 < firstOf xs → firstOf xs % D ≡ 0 → firstOf xs ≤ lastOf xs
+    → (lastOf xs + d) % D ≡ 0 → Spans d D ρ xs
+unfolding ticks
+spans d D ρ xs zd zρ dD pos fw le lw = go (firstOf xs / D) ((lastOf xs + d) / D) (multiple (firstOf xs) D fw) (multiple (lastOf xs + d) D lw)
+  where
+    some : (a : ℕ) → firstOf xs ≡ a * D → 0 < a
+    some zero e = absurd (omega (arith, e ∙ zero-mul D))
+    some (suc a) e = omega arith
+
+    go : (a k : ℕ) → firstOf xs ≡ a * D → lastOf xs + d ≡ k * D → Spans d D ρ xs
+    go a k fa lk =
+        let ak : a < k = lt-of-mul-lt-mul-right D (omega arith) in
+        let kk : k ≡ a + (k - a) = omega arith in
+        let lz : lastOf xs + d ≡ (a + (k - a)) * D = lk ∙ ap (λ (v : ℕ). v * D) kk in
+        let lt : lastOf xs + d ≡ firstOf xs + (k - a) * ρ * d = lz ∙ lin (k - a) in
+        record { A = a; Z = k - a; A-pos = some a fa; first-is = fa; last-is = lz; ticks-are = ticks-between d (firstOf xs) (lastOf xs) ((k - a) * ρ) zd (mul-pos (omega arith) zρ) lt }
+      where
+        lin : (z : ℕ) → (a + z) * D ≡ firstOf xs + z * ρ * d
+        lin z = rw (fa, dD) (omega arith)

@@ -1,0 +1,31 @@
+-- `write::write_cell` meets its contract: the cell's place is in the slab and behind its header. Assumes nothing.
+use mathlib.Core.Path.{_≡_}
+use Rattle.model.specs.Bytes.{put}
+use Rattle.model.specs.Ring.{cellAt, putCells}
+use Rattle.laws.specs.Slab.{cellAt-high}
+use Rattle.ring.proofs.Laws.{cell-place}
+use Rattle.write.proofs.Laws.{sound-put}
+use borrow.Author.Needs.{needs}
+use Rattle.write.proofs.write_cell.Statement.{statement}
+use Rattle.write.proofs.write_cell.Tie as tie
+
+cell-place-requires : tie.Need-cell-place-requires
+cell-place-requires c κs = search needs
+
+put-u64-requires : tie.Need-put-u64-requires
+put-u64-requires c κs = search needs
+
+same-length : tie.Need-same-length
+same-length c = search needs
+
+returns : tie.Need-returns
+unfolding putCells
+returns c =
+    let s = c .before .before .before .before .before .before .args .slab .now in
+    let o = cellAt s (c .before .before .before .before .before .before .args .column) (c .before .before .before .before .before .before .args .slot) in
+    let at : c .before .before .before .before .cell-place .result ≡ o = cc (cell-place s (c .before .before .before .before .before .before .args .n) (c .before .before .before .before .before .before .args .m) (c .before .before .before .before .before .before .pre .0) (c .before .before .before .before .before .before .args .column) (c .before .before .before .before .before .before .args .slot)) in
+    let e : c .before .before .put-u64 .last .0 ≡ put 8 s o (c .before .before .before .before .before .before .args .value) = cc in
+    (e, rw e (sound-put (c .before .before .before .before .before .before .pre .0) o (c .before .before .before .before .before .before .args .value) (cellAt-high s (c .before .before .before .before .before .before .args .column) (c .before .before .before .before .before .before .args .slot))))
+
+pub write-cell-spec : {M : Type 1} → statement M
+write-cell-spec = tie.close (tie.spec cell-place-requires put-u64-requires same-length returns)

@@ -1,0 +1,126 @@
+// A ring's writers: one value, and a batch of values (Rust's `write` and `write_batch` of ring.rs). Both store the stamp in its slot, then cells, then the
+// cursor, and answer the flag. A slab is lent as its own slice and stays in good order (`Sound`).
+ghost use mathlib.Core.Path.{_≡_};
+ghost use mathlib.Core.Bool.{_||_};
+ghost use Prim.Native.Nat.{_<_};
+ghost use lib.Dec.{ltb};
+ghost use Rattle.model.specs.Ring.{interval, putCells, write};
+ghost use Rattle.model.specs.Record.{entries, entriesOf};
+ghost use Rattle.rings.specs.Sound.{Sound};
+ghost use Rattle.ring.specs.Parts.{Sized, ringOf, one};
+ghost use Rattle.write.specs.Stored.{Stamp, Columns};
+
+// The slot that a stamp was stored in, and the flag after the write.
+struct Stamped {
+    slot: usize,
+    wrapped: bool,
+}
+
+// The flag after a write to a slot.
+fn flag_after(wrapped: bool, slot: usize, cursor: usize) -> bool
+    ensures { λ r. ⌜ r ≡ (wrapped || ltb slot cursor) ⌝ }
+{
+    if wrapped {
+        return true;
+    }
+    slot < cursor
+}
+
+// Stores the stamp.
+fn write_stamp(
+    slab: &mut [u8],
+    n: usize,
+    m: usize,
+    interval: u64,
+    stamp: u64,
+    wrapped: bool,
+) -> Stamped
+    requires { ⌜ Sound (now slab) n m interval ⌝ }
+    requires { ⌜ 0 < interval ⌝ }
+    ensures { λ r. ⌜ Stamp (now (slab .entry)) n m interval stamp wrapped (r .slot) (r .wrapped) (now (slab .exit)) ⌝ }
+{
+    let slot = ring::slot_of(stamp, interval, n);
+    let cursor = ring::cursor_of(slab, n, m);
+    let flag = flag_after(wrapped, slot, cursor);
+    let at = ring::stamp_place(n, m, slot);
+    field::put_u64(slab, at, stamp);
+    Stamped {
+        slot: slot,
+        wrapped: flag,
+    }
+}
+
+// Stores a value in the cell of a column in a slot.
+fn write_cell(slab: &mut [u8], n: usize, m: usize, column: usize, slot: usize, value: u64)
+    requires { ⌜ Sized (now slab) n m ⌝ }
+    requires { ⌜ (slot < n) × (column < m) ⌝ }
+    ensures { λ _. ⌜ (now (slab .exit) ≡ putCells (now (slab .entry)) slot (one column value)) × Sound (now (slab .exit)) n m (interval (now (slab .entry))) ⌝ }
+{
+    let at = ring::cell_place(n, m, column, slot);
+    field::put_u64(slab, at, value);
+}
+
+// Stores the values that a batch has for a schema, in order.
+fn write_cells(slab: &mut [u8], n: usize, m: usize, slot: usize, batch: &[u8], schema: u64)
+    requires { ⌜ Sized (now slab) n m ⌝ }
+    requires { ⌜ (slot < n) × Columns m (entriesOf schema (entries (now batch))) ⌝ }
+    ensures { λ _. ⌜ now (slab .exit) ≡ putCells (now (slab .entry)) slot (entriesOf schema (entries (now (batch .entry)))) ⌝ }
+{
+    let count = batch.len() / 16;
+    let mut i = 0;
+    while i < count {
+        let s = field::get_u32(batch, 16 * i);
+        if s != schema {
+            i += 1;
+            continue;
+        }
+        let column = field::get_u32(batch, 16 * i + 4) as usize;
+        let value = field::get_u64(batch, 16 * i + 8);
+        write_cell(slab, n, m, column, slot, value);
+        i += 1;
+    }
+}
+
+// Stores one value: stamp, cell, cursor. Answers the flag.
+pub fn write(
+    slab: &mut [u8],
+    n: usize,
+    m: usize,
+    interval: u64,
+    column: usize,
+    value: u64,
+    stamp: u64,
+    wrapped: bool,
+) -> bool
+    requires { ⌜ Sound (now slab) n m interval ⌝ }
+    requires { ⌜ (0 < interval) × (column < m) ⌝ }
+    ensures { λ r. ⌜ (ringOf (now (slab .exit)) r ≡ write (ringOf (now (slab .entry)) wrapped) (one column value) stamp) × Sound (now (slab .exit)) n m interval ⌝ }
+{
+    let t = write_stamp(slab, n, m, interval, stamp, wrapped);
+    let slot = t.slot;
+    write_cell(slab, n, m, column, slot, value);
+    field::put_u32(slab, 32, slot as u64);
+    t.wrapped
+}
+
+// Stores the values that a batch has for a schema: stamp, cells, cursor. Answers the flag. With no entries it stores the stamp.
+pub fn write_batch(
+    slab: &mut [u8],
+    n: usize,
+    m: usize,
+    interval: u64,
+    batch: &[u8],
+    schema: u64,
+    stamp: u64,
+    wrapped: bool,
+) -> bool
+    requires { ⌜ Sound (now slab) n m interval ⌝ }
+    requires { ⌜ (0 < interval) × Columns m (entriesOf schema (entries (now batch))) ⌝ }
+    ensures { λ r. ⌜ (ringOf (now (slab .exit)) r ≡ write (ringOf (now (slab .entry)) wrapped) (entriesOf schema (entries (now (batch .entry)))) stamp) × Sound (now (slab .exit)) n m interval ⌝ }
+{
+    let t = write_stamp(slab, n, m, interval, stamp, wrapped);
+    let slot = t.slot;
+    write_cells(slab, n, m, slot, batch, schema);
+    field::put_u32(slab, 32, slot as u64);
+    t.wrapped
+}
