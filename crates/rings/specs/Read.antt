@@ -28,7 +28,7 @@ pts X d q (suc k) = record { stamp = q * d; value = X q } ∷ pts X d (suc q) k
 
 -- ---- a range of stamps, and the numbers in it
 
--- of the numbers from f up to t, those from g up to h are the ones whose stamps are from lo up to hi, both ends left out
+-- of the numbers from f up to t, those from g up to h are the ones whose stamps are from lo up to hi; t, h and hi are left out
 pub record InRange (d lo hi f t g h : ℕ) : Type 0 where
   pub first : f ≤ g
   pub rising : g ≤ h
