@@ -1,0 +1,436 @@
+//! Runs one list of calls on all sides and compares after each call; makes a list that
+//! shows a difference as small as it can.
+
+use crate::calls::{Answer, Call, Kind, Plan, Side, State, Tier};
+use crate::plain::{HEADER, ROW, infinite};
+use crate::sides::{Lent, Plain, lent_flags, published};
+
+#[derive(Clone, Debug, PartialEq, Eq)]
+pub struct List {
+    pub plan: Plan,
+    /// Other bytes than the plan's, and the room lent to creation: only for sides on lent
+    /// bytes, as is a list with damage.
+    pub raw: Option<(Vec<u8>, usize)>,
+    pub calls: Vec<Call>,
+}
+
+impl List {
+    pub fn new(plan: Plan, calls: Vec<Call>) -> Self {
+        Self { plan, raw: None, calls }
+    }
+
+    fn for_lent_bytes(&self) -> bool {
+        let damage = |c: &Call| matches!(c, Call::Damage { .. } | Call::Cut { .. });
+        self.raw.is_some() || self.calls.iter().any(damage)
+    }
+}
+
+#[derive(Clone, Debug)]
+pub struct Difference {
+    /// 0 is the creation, k the k-th call.
+    pub at: usize,
+    pub side: &'static str,
+    pub what: String,
+}
+
+/// What was run, and what was passed over for a reason.
+#[derive(Clone, Debug, Default)]
+pub struct Tally {
+    pub lists: u64,
+    /// Calls answered by the plain side, creations included.
+    pub calls: u64,
+    pub compared: u64,
+    pub points: u64,
+    pub refusals: [u64; 17],
+    /// Refused by document 01 alone [D]: not asked of the Rust.
+    pub not_asked: u64,
+    /// Runs after which the published Rust went another way by its hash order.
+    pub by_hash_order: u64,
+    /// Refused runs that lost a finished pair's mark in the Rust.
+    pub marks_lost: u64,
+}
+
+enum Asked {
+    Yes,
+    This(Call),
+    /// The side lacks this refusal and nothing has changed.
+    Pass,
+    /// The side cannot follow from here.
+    Stop,
+}
+
+fn asked(kind: Kind, call: &Call, leader: &Answer) -> Asked {
+    let refused = match leader {
+        Answer::Refused(n) => *n,
+        _ => 0,
+    };
+    match (kind, call) {
+        (Kind::Whole, _) => Asked::Yes,
+        (Kind::Engine, Call::Query { .. } | Call::Auto { .. }) => Asked::Pass,
+        (_, Call::Consolidate) if refused == 10 => Asked::Stop,
+        (_, Call::Open) if refused != 0 => Asked::Stop,
+        _ if refused == 11 => Asked::Pass,
+        (_, Call::Record { stamp, .. } | Call::Batch { stamp, .. })
+            if refused == 13 && *stamp >= 1 << 63 =>
+        {
+            Asked::Pass
+        }
+        // Over several schemas the Rust may store those that it comes to before the bad
+        // one: of its outcomes, this is the one in which the bad one comes first.
+        (_, Call::Batch { entries, tail, stamp }) if refused == 12 => {
+            let bad = |s: u32| entries.iter().any(|e| e.0 == s && infinite(e.2));
+            let entries = entries.iter().filter(|e| bad(e.0)).copied().collect();
+            Asked::This(Call::Batch { entries, tail: *tail, stamp: *stamp })
+        }
+        _ => Asked::Yes,
+    }
+}
+
+/// Where two states differ first, in words.
+fn unlike(ours: &State, theirs: &State) -> Option<String> {
+    for (row, (a, b)) in ours.slabs.iter().zip(&theirs.slabs).enumerate() {
+        if a.len() != b.len() {
+            return Some(format!("row {row}: slab length {} and {}", a.len(), b.len()));
+        }
+        if let Some(i) = (0..a.len()).find(|&i| a[i] != b[i]) {
+            let i = i.min(a.len().saturating_sub(8)) & !3;
+            return Some(format!(
+                "row {row}, slab byte {i}: {:02x?} and {:02x?}",
+                &a[i..i + 8],
+                &b[i..i + 8]
+            ));
+        }
+    }
+    if ours.slabs.len() != theirs.slabs.len() {
+        return Some("number of slabs".to_string());
+    }
+    if ours.flags != theirs.flags {
+        return Some(format!("flags {:?} and {:?}", ours.flags, theirs.flags));
+    }
+    if ours.marks != theirs.marks {
+        return Some(format!("marks {:?} and {:?}", ours.marks, theirs.marks));
+    }
+    if let (Some(a), Some(b)) = (&ours.lent, &theirs.lent)
+        && a != b
+    {
+        return Some("lent bytes or flags".to_string());
+    }
+    None
+}
+
+/// What must hold of a side that works on lent bytes, whatever the others say: a refusal
+/// changes nothing, but for consolidation; header and rows (marks aside), the surplus and
+/// the flags past R stay.
+fn frame(call: &Call, answer: &Answer, before: &State, after: &State) -> Option<String> {
+    if matches!(call, Call::Poke { .. } | Call::Damage { .. } | Call::Cut { .. }) {
+        return None;
+    }
+    if let Answer::Panicked(text) = answer {
+        return Some(format!("panicked: {text}"));
+    }
+    let (Some((a, f)), Some((b, g))) = (&before.lent, &after.lent) else {
+        return None;
+    };
+    if a == b && f == g {
+        return None;
+    }
+    let still = matches!(answer, Answer::Refused(_)) && *call != Call::Consolidate;
+    let reads = matches!(call, Call::Query { .. } | Call::Auto { .. });
+    if still || reads {
+        return Some("a refused or reading call changed bytes or flags".to_string());
+    }
+    let rows = before.flags.len();
+    let mark = |i: usize| i >= HEADER && (48..56).contains(&((i - HEADER) % ROW));
+    let head = HEADER + ROW * rows;
+    let total = crate::plain::get64(a, 16) as usize;
+    if (0..head).any(|i| !mark(i) && a[i] != b[i]) {
+        return Some("header or rows changed".to_string());
+    }
+    if a[total..] != b[total..] || f[rows..] != g[rows..] {
+        return Some("bytes past the image or flags past R changed".to_string());
+    }
+    None
+}
+
+fn words(a: &Answer) -> String {
+    match a {
+        Answer::Points { tier, oldest, newest, range, incomplete, points } => {
+            let points: Vec<String> =
+                points.iter().map(|p| format!("({}, 0x{:016x})", p.0, p.1)).collect();
+            format!(
+                "tier {tier}, ends {oldest:?} {newest:?}, range {range:?}, incomplete {incomplete}, points [{}]",
+                points.join(", ")
+            )
+        }
+        _ => format!("{a:?}"),
+    }
+}
+
+fn not_checked_by_rust(plan: &Plan) -> bool {
+    plan.0.iter().any(|s| s.tiers.iter().any(|t| t.interval >= 1 << 63 || t.retention >= 1 << 63))
+}
+
+fn create(side: &mut dyn Side, list: &List) -> Answer {
+    match &list.raw {
+        Some((plan, room)) => side.create_from(plan, *room),
+        None => side.create(&list.plan),
+    }
+}
+
+pub fn run(list: &List, sides: &mut [Box<dyn Side>], tally: &mut Tally) -> Option<Difference> {
+    let mut leader = Lent::new("document 01", Plain);
+    let whole = list.for_lent_bytes();
+    let follows = |s: &dyn Side| !whole || s.kind() == Kind::Whole;
+    tally.lists += 1;
+    tally.calls += 1;
+    let made = create(&mut leader, list);
+    let mut before = leader.state();
+    let differs = |at, side, what| Some(Difference { at, side, what });
+    if let Answer::Refused(n) = made {
+        tally.refusals[n as usize] += 1;
+        let (image, flags) = before.lent.as_ref().unwrap();
+        if image.iter().any(|&b| b != 0xa5) || *flags != lent_flags() {
+            return differs(0, leader.name(), "a refused creation changed something".to_string());
+        }
+        for side in sides.iter_mut().filter(|s| s.kind() == Kind::Whole) {
+            let theirs = create(side.as_mut(), list);
+            if theirs != made || side.state().lent != before.lent {
+                return differs(0, side.name(), format!("creation: {made:?} and {theirs:?}"));
+            }
+        }
+        // 8 and 9, and 4 for 2^63 or more, are ours alone.
+        if whole || n == 8 || n == 9 || not_checked_by_rust(&list.plan) {
+            tally.not_asked += 1;
+            return None;
+        }
+        let theirs = published::validate(&list.plan);
+        tally.compared += 1;
+        if theirs != made {
+            return differs(0, "published", format!("creation: {made:?} and {theirs:?}"));
+        }
+        return None;
+    }
+    if let Answer::Panicked(text) = made {
+        return differs(0, leader.name(), format!("creation panicked: {text}"));
+    }
+    let rows = before.flags.len();
+    let (image, flags) = before.lent.as_ref().unwrap();
+    let total = crate::plain::get64(image, 16) as usize;
+    if before.flags.iter().any(|&f| f)
+        || flags[rows..] != lent_flags()[rows..]
+        || image[total..].iter().any(|&b| b != 0xa5)
+    {
+        return differs(0, leader.name(), "creation: flags or surplus".to_string());
+    }
+    let mut active: Vec<bool> = sides.iter().map(|s| follows(s.as_ref())).collect();
+    for side in sides.iter_mut().filter(|s| follows(s.as_ref())) {
+        let theirs = create(side.as_mut(), list);
+        if theirs != made {
+            return differs(0, side.name(), format!("creation: {made:?} and {theirs:?}"));
+        }
+        if let Some(what) = unlike(&before, &side.state()) {
+            return differs(0, side.name(), format!("creation: {what}"));
+        }
+        tally.compared += 1;
+    }
+    for (i, call) in list.calls.iter().enumerate() {
+        let ours = leader.call(call);
+        let after = leader.state();
+        tally.calls += 1;
+        match &ours {
+            Answer::Refused(n) => tally.refusals[*n as usize] += 1,
+            Answer::Points { points, .. } => tally.points += points.len() as u64,
+            _ => {}
+        }
+        if let Some(what) = frame(call, &ours, &before, &after) {
+            return differs(i + 1, leader.name(), what);
+        }
+        for (side, active) in sides.iter_mut().zip(&mut active) {
+            if !*active {
+                continue;
+            }
+            let theirs = match asked(side.kind(), call, &ours) {
+                Asked::Yes => side.call(call),
+                Asked::This(other) => side.call(&other),
+                Asked::Pass => {
+                    tally.not_asked += 1;
+                    continue;
+                }
+                Asked::Stop => {
+                    tally.not_asked += 1;
+                    *active = false;
+                    continue;
+                }
+            };
+            tally.compared += 1;
+            let lost = side.kind() == Kind::Store
+                && *call == Call::Consolidate
+                && matches!(ours, Answer::Refused(_));
+            let mut wanted = after.clone();
+            if lost {
+                wanted.marks = before.marks.clone();
+            }
+            let what = if ours != theirs {
+                Some(format!("{} and {}", words(&ours), words(&theirs)))
+            } else {
+                unlike(&wanted, &side.state())
+            };
+            if let Some(what) = what {
+                let several = matches!(ours, Answer::Count(2..) | Answer::Refused(12 | 13 | 16));
+                if side.name() == "published" && *call == Call::Consolidate && several {
+                    tally.by_hash_order += 1;
+                    *active = false;
+                    continue;
+                }
+                return differs(i + 1, side.name(), what);
+            }
+            if lost && before.marks != after.marks {
+                tally.marks_lost += 1;
+                side.set_marks(&after.marks);
+            }
+        }
+        before = after;
+    }
+    None
+}
+
+/// Lists a little smaller than this one.
+fn smaller(list: &List) -> Vec<List> {
+    let mut found = Vec::new();
+    let with = |f: &dyn Fn(&mut List)| {
+        let mut l = list.clone();
+        f(&mut l);
+        l
+    };
+    let mut size = list.calls.len();
+    while size > 0 {
+        for at in (0..list.calls.len()).step_by(size) {
+            found.push(with(&|l| {
+                l.calls.drain(at..(at + size).min(l.calls.len()));
+            }));
+        }
+        size /= 2;
+    }
+    let schemas = &list.plan.0;
+    if list.raw.is_some() {
+        return found;
+    }
+    if schemas.len() > 1 {
+        found.push(with(&|l| {
+            l.plan.0.pop();
+        }));
+    }
+    for s in 0..schemas.len() {
+        if schemas[s].tiers.len() > 1 {
+            found.push(with(&|l| {
+                l.plan.0[s].tiers.pop();
+            }));
+        }
+        if schemas[s].series > 2 {
+            found.push(with(&|l| l.plan.0[s].series = 2));
+        }
+        for (t, &Tier { interval, retention, .. }) in schemas[s].tiers.iter().enumerate() {
+            if interval > 0 && retention / interval > 1 {
+                found.push(with(&|l| l.plan.0[s].tiers[t].retention = retention - interval));
+            }
+            if interval > 0 && retention % interval != 0 {
+                found.push(with(&|l| l.plan.0[s].tiers[t].retention -= retention % interval));
+            }
+        }
+    }
+    let one = 1f64.to_bits();
+    for (i, call) in list.calls.iter().enumerate() {
+        match call {
+            Call::Record { value, stamp, .. } => {
+                if *value != one {
+                    found.push(with(&|l| {
+                        if let Call::Record { value, .. } = &mut l.calls[i] {
+                            *value = one;
+                        }
+                    }));
+                }
+                for less in [1, stamp / 2, stamp.saturating_sub(1)] {
+                    if less < *stamp && less > 0 {
+                        found.push(with(&|l| {
+                            if let Call::Record { stamp, .. } = &mut l.calls[i] {
+                                *stamp = less;
+                            }
+                        }));
+                    }
+                }
+            }
+            Call::Batch { entries, .. } => {
+                for e in 0..entries.len() {
+                    found.push(with(&|l| {
+                        if let Call::Batch { entries, .. } = &mut l.calls[i] {
+                            entries.remove(e);
+                        }
+                    }));
+                }
+            }
+            _ => {}
+        }
+    }
+    // A call may name a row or a cell that is no longer there.
+    found.retain(|l| l != list && l.calls.iter().all(|c| in_place(&l.plan, c)));
+    found
+}
+
+fn in_place(plan: &Plan, call: &Call) -> bool {
+    use crate::calls::Cell;
+    let Call::Poke { row, cell } = call else {
+        return true;
+    };
+    let Some(&(s, t)) = plan.places().get(*row) else {
+        return false;
+    };
+    let (m, tier) = (plan.0[s].series as u64, plan.0[s].tiers[t]);
+    let n = tier.retention / tier.interval;
+    match *cell {
+        Cell::Stamp { slot, .. } => slot < n,
+        Cell::Value { column, slot, .. } => slot < n && column < m,
+        Cell::Cursor(x) => (x as u64) < n,
+        Cell::Loose { at, .. } => (at as u64) < 64 + 4 * m,
+        Cell::Mark(_) => t + 1 < plan.0[s].tiers.len(),
+    }
+}
+
+/// The smallest list that was found to show a difference, with that difference.
+pub fn shrink(list: &List, sides: &mut [Box<dyn Side>], found: Difference) -> (List, Difference) {
+    let (mut list, mut found) = (list.clone(), found);
+    list.calls.truncate(found.at);
+    let mut tries = 4_000;
+    'again: loop {
+        for candidate in smaller(&list) {
+            tries -= 1;
+            if tries == 0 {
+                return (list, found);
+            }
+            if let Some(d) = run(&candidate, sides, &mut Tally::default()) {
+                (list, found) = (candidate, d);
+                list.calls.truncate(found.at);
+                continue 'again;
+            }
+        }
+        return (list, found);
+    }
+}
+
+pub fn show(list: &List, d: &Difference) {
+    println!("DIFFERENCE between document 01 and {}, call {}: {}", d.side, d.at, d.what);
+    if let Some((plan, room)) = &list.raw {
+        println!("  plan bytes {plan:02x?}, room {room}");
+    }
+    for (s, schema) in list.plan.0.iter().enumerate() {
+        println!("  schema {s}, {} series", schema.series);
+        for t in &schema.tiers {
+            println!(
+                "    interval {}, retention {}, function {}",
+                t.interval, t.retention, t.function
+            );
+        }
+    }
+    for (i, call) in list.calls.iter().enumerate() {
+        println!("  {}: {call:x?}", i + 1);
+    }
+}

@@ -1,0 +1,191 @@
+//! Libraries with one fault each, set beside the plain reading as a third side would be:
+//! the driver must tell them apart. The faults are those that document 01 wants caught,
+//! and its traps.
+
+use crate::calls::{Answer, Side};
+use crate::compare::{Tally, run, shrink};
+use crate::generate::{self, Random};
+use crate::plain::{self, FRESH, Flags, HEADER, ROW};
+use crate::sides::{Lent, Library, Plain};
+
+#[derive(Clone, Copy, Debug, PartialEq)]
+enum Fault {
+    None_,
+    RefusesEachPlan,
+    RecordStoresNothing,
+    InventedCount,
+    OnlyTheFirstWindow,
+    ReaderEndsAtOnce,
+    AverageIsZero,
+    NewestIsGreatest,
+    ClearsOtherColumns,
+    FlagFromHistory,
+    WritesPastTheImage,
+    ChangesFlagsPastR,
+    RefusedBatchStores,
+    MarkMovesOnRefusal,
+    TailIsRead,
+}
+use Fault::*;
+
+struct Faulty(Fault);
+
+/// A sound image's rows.
+fn rows(image: &[u8]) -> Vec<plain::Row> {
+    plain::check(image).map_or(Vec::new(), |c| c.rows)
+}
+
+impl Library for Faulty {
+    fn create(&self, plan: &[u8], image: &mut [u8], flags: &mut Flags) -> u32 {
+        if self.0 == RefusesEachPlan { 4 } else { Plain.create(plan, image, flags) }
+    }
+
+    fn open(&self, image: &[u8], flags: &mut Flags) -> u32 {
+        let history = *flags;
+        let number = Plain.open(image, flags);
+        if self.0 == FlagFromHistory {
+            *flags = history;
+        }
+        number
+    }
+
+    fn record(&self, image: &mut [u8], flags: &mut Flags, sample: (u32, u32, u64, u64)) -> u32 {
+        if self.0 == RecordStoresNothing {
+            return Plain.record(&mut image.to_vec(), &mut flags.clone(), sample);
+        }
+        let number = Plain.record(image, flags, sample);
+        if number == 0 && self.0 == ClearsOtherColumns {
+            let row = rows(image).into_iter().find(|r| r.schema == sample.0).unwrap();
+            let (n, m) = (row.slots() as usize, row.series as usize);
+            let slot = (sample.3 / row.interval) as usize % n;
+            for c in (0..m).filter(|&c| c != sample.1 as usize) {
+                plain::put64(
+                    image,
+                    row.offset as usize + 64 + 4 * m + 8 * n + 8 * n * c + 8 * slot,
+                    FRESH,
+                );
+            }
+        }
+        if number == 0 && self.0 == WritesPastTheImage {
+            *image.last_mut().unwrap() = 1;
+        }
+        number
+    }
+
+    fn record_batch(&self, image: &mut [u8], flags: &mut Flags, entries: &[u8], stamp: u64) -> u32 {
+        let mut entries = entries.to_vec();
+        if self.0 == TailIsRead && entries.len() % 16 == 15 {
+            entries.push(0);
+        }
+        let number = Plain.record_batch(image, flags, &entries, stamp);
+        if number == 12 && self.0 == RefusedBatchStores {
+            Plain.record_batch(image, flags, &entries[..16], stamp);
+        }
+        number
+    }
+
+    fn query(
+        &self,
+        image: &[u8],
+        flags: &Flags,
+        handle: (u32, u32),
+        tier: Option<u32>,
+        range: (u64, u64),
+    ) -> Answer {
+        let mut answer = Plain.query(image, flags, handle, tier, range);
+        if let Answer::Points { tier, newest, points, .. } = &mut answer {
+            if self.0 == ReaderEndsAtOnce {
+                points.clear();
+            }
+            if self.0 == NewestIsGreatest && newest.is_some() {
+                let own = |r: &plain::Row| r.schema == handle.0 && r.tier == *tier;
+                let row = rows(image).into_iter().find(own).unwrap();
+                let at = row.offset as usize + 64 + 4 * row.series as usize;
+                *newest = (0..row.slots() as usize).map(|k| plain::get64(image, at + 8 * k)).max();
+            }
+        }
+        answer
+    }
+
+    fn consolidate(&self, image: &mut [u8], flags: &mut Flags) -> Answer {
+        let before = image.to_vec();
+        let answer = Plain.consolidate(image, flags);
+        for (i, row) in rows(image).into_iter().enumerate() {
+            let (n, m) = (row.slots() as usize, row.series as usize);
+            let stamps = row.offset as usize + 64 + 4 * m;
+            let cells = |slot: usize| (0..=m).map(move |c| stamps + 8 * n * c + 8 * slot);
+            let new = |image: &[u8], slot: usize| {
+                cells(slot).any(|at| plain::get64(image, at) != plain::get64(&before, at))
+            };
+            let written: Vec<usize> = (0..n).filter(|&slot| new(image, slot)).collect();
+            if self.0 == OnlyTheFirstWindow {
+                let first =
+                    written.iter().copied().min_by_key(|&k| plain::get64(image, stamps + 8 * k));
+                for &slot in written.iter().filter(|&&k| Some(k) != first) {
+                    for at in cells(slot) {
+                        plain::put64(image, at, plain::get64(&before, at));
+                    }
+                }
+            }
+            if self.0 == AverageIsZero && row.function == 1 {
+                for &slot in &written {
+                    cells(slot).skip(1).for_each(|at| {
+                        if plain::get64(image, at) != plain::get64(&before, at) {
+                            plain::put64(image, at, 0);
+                        }
+                    });
+                }
+            }
+            if self.0 == MarkMovesOnRefusal
+                && matches!(answer, Answer::Refused(12..=13))
+                && row.tier == 0
+            {
+                plain::put64(image, HEADER + ROW * i + 48, 1);
+            }
+        }
+        if self.0 == ChangesFlagsPastR {
+            flags[31] = !flags[31];
+        }
+        match answer {
+            Answer::Count(n @ 1..) if self.0 == InventedCount => Answer::Count(n + 1),
+            other => other,
+        }
+    }
+}
+
+/// The number of calls in the smallest list that shows the fault.
+fn caught(fault: Fault) -> Option<usize> {
+    let mut sides: Vec<Box<dyn Side>> = vec![Box::new(Lent::new("faulty", Faulty(fault)))];
+    for i in 0..300 {
+        let list = generate::list(&mut Random(i), 60, true);
+        if let Some(d) = run(&list, &mut sides, &mut Tally::default()) {
+            return Some(shrink(&list, &mut sides, d).0.calls.len());
+        }
+    }
+    None
+}
+
+#[test]
+fn each_fault_is_caught_and_no_other() {
+    assert_eq!(caught(None_), None);
+    for (fault, most) in [
+        (RefusesEachPlan, 0),
+        (RecordStoresNothing, 1),
+        (InventedCount, 2),
+        (OnlyTheFirstWindow, 3),
+        (ReaderEndsAtOnce, 2),
+        (AverageIsZero, 2),
+        (NewestIsGreatest, 3),
+        (ClearsOtherColumns, 2),
+        (FlagFromHistory, 3),
+        (WritesPastTheImage, 1),
+        (ChangesFlagsPastR, 1),
+        (RefusedBatchStores, 1),
+        (MarkMovesOnRefusal, 2),
+        (TailIsRead, 1),
+    ] {
+        let calls = caught(fault).unwrap_or_else(|| panic!("{fault:?} was not caught"));
+        println!("{fault:?}: {calls} calls");
+        assert!(calls <= most, "{fault:?}: {calls} calls");
+    }
+}

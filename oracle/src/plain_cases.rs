@@ -1,0 +1,237 @@
+//! Document 01's marked cases A to L, and the order of its refusals.
+
+use super::*;
+use crate::calls::{Plan, Schema, Tier, entry_bytes};
+
+const INF: u64 = 0x7ff0_0000_0000_0000;
+const ALL: (u64, u64) = (0, u64::MAX);
+
+/// Interval, slots, function of each tier; two series.
+fn plan_of(tiers: &[(u64, u64, u32)]) -> Plan {
+    let tier = |&(interval, n, function): &(u64, u64, u32)| Tier {
+        interval,
+        retention: interval * n,
+        function,
+    };
+    Plan(vec![Schema { series: 2, tiers: tiers.iter().map(tier).collect() }])
+}
+
+fn made(plan: &Plan) -> (Vec<u8>, Flags) {
+    let (mut image, mut flags) = (vec![0; 200_000], [false; 32]);
+    create(&plan.bytes(|_| 7), &mut image, &mut flags).unwrap();
+    let total = get64(&image, 16) as usize;
+    image.truncate(total);
+    (image, flags)
+}
+
+fn put(s: &mut (Vec<u8>, Flags), stamp: u64, value: f64) {
+    record(&mut s.0, &mut s.1, 0, 0, value.to_bits(), stamp).unwrap();
+}
+
+fn read(s: &(Vec<u8>, Flags), tier: u32, range: (u64, u64)) -> Vec<(u64, f64)> {
+    let found = query(&s.0, &s.1, 0, 0, tier, range).unwrap();
+    found.reader.map(|(t, v)| (t, f64::from_bits(v))).collect()
+}
+
+fn check_plan(plan: &Plan) -> Result<(), u32> {
+    create(&plan.bytes(|_| 7), &mut vec![0; 4096], &mut [false; 32])
+}
+
+fn numbers(values: &[f64]) -> Vec<u64> {
+    values.iter().map(|v| v.to_bits()).collect()
+}
+
+#[test]
+fn a_layout_of_a_slab() {
+    let (image, _) = made(&plan_of(&[(1, 60, 0)]));
+    let row = check(&image).unwrap().rows[0];
+    let slab = &image[row.place()];
+    assert_eq!(stamp_at(slab, 0), 72);
+    assert_eq!((value_at(slab, 0, 0), value_at(slab, 1, 0)), (552, 1032));
+    assert_eq!(row.length, 1512);
+}
+
+#[test]
+fn b_layout_of_an_image() {
+    let s = 1_000_000_000;
+    let (image, _) = made(&plan_of(&[(s, 3600, 0), (60 * s, 24 * 60, 1), (3600 * s, 30 * 24, 1)]));
+    let rows = check(&image).unwrap().rows;
+    assert_eq!(rows.iter().map(Row::slots).collect::<Vec<_>>(), [3600, 1440, 720]);
+    assert_eq!(rows.iter().map(|r| r.offset).collect::<Vec<_>>(), [224, 86_696, 121_328]);
+    assert_eq!(image.len(), 138_680);
+}
+
+#[test]
+fn c_slots_up_to_a_thousand_million() {
+    assert_eq!(check_plan(&plan_of(&[(1, 1_000_000_000, 0)])), Err(SHORT_BUFFER));
+    assert_eq!(check_plan(&plan_of(&[(1, 1_000_000_001, 0)])), Err(TOO_MANY_SLOTS));
+}
+
+fn case_d() -> (Vec<u8>, Flags) {
+    let mut s = made(&plan_of(&[(10, 4, 0)]));
+    for k in 1..=4 {
+        put(&mut s, 10 * k, k as f64);
+    }
+    s
+}
+
+#[test]
+fn d_wrapped_and_read_in_order() {
+    let s = case_d();
+    assert!(s.1[0]);
+    assert_eq!(read(&s, 0, ALL), [(10, 1.0), (20, 2.0), (30, 3.0), (40, 4.0)]);
+}
+
+#[test]
+fn e_nan_takes_a_slot() {
+    let mut s = case_d();
+    put(&mut s, 15, f64::NAN);
+    assert_eq!(read(&s, 0, ALL), [(20, 2.0), (30, 3.0), (40, 4.0)]);
+    assert_eq!(query(&s.0, &s.1, 0, 0, 0, ALL).unwrap().newest, Some(15));
+}
+
+#[test]
+fn f_coverage() {
+    let ends = (Some(10), Some(40));
+    assert_eq!(coverage(ends.0, ends.1, (10, 40)), (true, false));
+    assert_eq!(coverage(ends.0, ends.1, (10, 41)), (false, false));
+    assert_eq!(coverage(ends.0, ends.1, (9, 40)), (false, true));
+    assert_eq!(coverage(None, None, (9, 40)), (false, true));
+}
+
+#[test]
+fn g_infinity_at_stamp_0() {
+    let mut s = case_d();
+    let before = s.clone();
+    assert_eq!(record(&mut s.0, &mut s.1, 0, 0, INF, 0), Err(INVALID_VALUE));
+    let entries = entry_bytes(&[(0, 0, INF)], 0);
+    assert_eq!(record_batch(&mut s.0, &mut s.1, &entries, 0), Err(INVALID_TIMESTAMP));
+    assert_eq!(record_batch(&mut s.0, &mut s.1, &[], 0), Ok(()));
+    assert!(s == before);
+}
+
+#[test]
+fn h_average() {
+    assert_eq!(apply(1, &numbers(&[1.0, 2.0, 4.0])), Window::Number(7.0 / 3.0));
+    assert_eq!(apply(1, &[INF, INF | 1 << 63]), Window::NothingFinite);
+    assert_eq!(apply(1, &[]), Window::Empty);
+}
+
+#[test]
+fn i_tier_before_range() {
+    let (image, flags) = made(&plan_of(&[(1, 2, 0), (2, 2, 1), (4, 2, 1)]));
+    assert_eq!(query(&image, &flags, 0, 0, 3, (5, 5)).err(), Some(INVALID_TIER));
+    assert_eq!(query(&image, &flags, 0, 0, 2, (5, 5)).err(), Some(INVALID_TIME_RANGE));
+}
+
+#[test]
+fn j_means_and_a_window_met_twice() {
+    let mut s = made(&plan_of(&[(10, 20, 0), (30, 20, 1)]));
+    for (stamp, value) in [(30, 1.0), (40, 2.0), (50, 6.0)] {
+        put(&mut s, stamp, value);
+    }
+    assert_eq!(consolidate(&mut s.0, &mut s.1), Ok(1));
+    assert_eq!(read(&s, 1, ALL), [(30, 3.0)]);
+    put(&mut s, 60, 5.0);
+    assert_eq!(consolidate(&mut s.0, &mut s.1), Ok(1));
+    put(&mut s, 70, 7.0);
+    put(&mut s, 80, 9.0);
+    assert_eq!(consolidate(&mut s.0, &mut s.1), Ok(1));
+    assert_eq!(read(&s, 1, ALL), [(30, 3.0), (60, 8.0)]);
+}
+
+#[test]
+fn k_window_0_is_refused() {
+    let mut s = made(&plan_of(&[(10, 20, 0), (30, 20, 1)]));
+    put(&mut s, 10, 1.0);
+    let before = s.clone();
+    assert_eq!(consolidate(&mut s.0, &mut s.1), Err(INVALID_TIMESTAMP));
+    assert!(s == before);
+}
+
+#[test]
+fn l_reopened_it_reads_less() {
+    let mut s = made(&plan_of(&[(10, 10, 0)]));
+    for stamp in (50..=110).step_by(10) {
+        put(&mut s, stamp, 1.0);
+    }
+    let stamps = |s: &(Vec<u8>, Flags)| read(s, 0, ALL).iter().map(|p| p.0).collect::<Vec<_>>();
+    assert_eq!(stamps(&s), [50, 60, 70, 80, 90, 100, 110]);
+    open(&s.0, &mut s.1).unwrap();
+    assert_eq!(stamps(&s), [100, 110]);
+}
+
+#[test]
+fn sums_start_from_negative_zero() {
+    let bits = |w| match w {
+        Window::Number(x) => x.to_bits(),
+        other => panic!("{other:?}"),
+    };
+    assert_eq!(bits(apply(5, &numbers(&[-0.0]))), 1 << 63);
+    assert_eq!(bits(apply(1, &numbers(&[-0.0, -0.0]))), 1 << 63);
+    assert_eq!(bits(apply(2, &numbers(&[0.0, -0.0]))), 0);
+    assert_eq!(bits(apply(3, &numbers(&[-0.0, 0.0]))), 1 << 63);
+}
+
+#[test]
+fn patterns() {
+    assert!(infinite(INF) && infinite(INF | 1 << 63) && !nan(INF));
+    assert!(nan(INF | 1) && nan(FRESH) && nan(u64::MAX) && !infinite(INF | 1));
+    assert!(!nan(INF - 1) && !infinite(INF - 1) && !nan(0) && !infinite(1 << 63));
+}
+
+#[test]
+fn refusals_of_a_plan_in_their_order() {
+    let good = plan_of(&[(10, 2, 0), (20, 2, 1)]);
+    let expect = |number: u32, f: &dyn Fn(&mut Plan)| {
+        let mut plan = good.clone();
+        f(&mut plan);
+        assert_eq!(check_plan(&plan), if number == 0 { Ok(()) } else { Err(number) });
+    };
+    expect(0, &|_| {});
+    expect(NO_TIERS, &|p| p.0[0].tiers.clear());
+    expect(INVALID_MAX_SERIES, &|p| p.0[0].series = 0);
+    expect(INVALID_TIER_CONFIG, &|p| p.0[0].tiers[0].interval = 0);
+    expect(INVALID_TIER_CONFIG, &|p| p.0[0].tiers[1].retention = 1 << 63);
+    expect(INVALID_TIER_CONFIG, &|p| p.0[0].tiers[1].retention = 19);
+    expect(TIERS_NOT_ORDERED, &|p| p.0[0].tiers[1].interval = 10);
+    expect(CONSOLIDATION_ON_HIGHEST_TIER, &|p| p.0[0].tiers[0].function = 1);
+    expect(BAD_IMAGE, &|p| p.0[0].tiers[1].function = 7);
+    expect(LAYOUT_TOO_LARGE, &|p| {
+        p.0[0].series = u32::MAX;
+        p.0[0].tiers[0].retention = 10_000_000_000;
+    });
+    // Two at once: the earlier schema, then the earlier number.
+    expect(INVALID_MAX_SERIES, &|p| (p.0[0].series, p.0[0].tiers[0].interval) = (0, 0));
+    expect(TOO_MANY_SLOTS, &|p| {
+        p.0[0].tiers[0].retention = 10_000_000_010;
+        p.0[0].tiers[1].interval = 0;
+    });
+    expect(INVALID_TIER_CONFIG, &|p| {
+        p.0[0].tiers[0].interval = 0;
+        p.0.push(Schema { series: 2, tiers: Vec::new() });
+    });
+    expect(NO_TIERS, &|p| p.0.push(Schema { series: 2, tiers: Vec::new() }));
+}
+
+#[test]
+fn each_call_on_a_damaged_image() {
+    let mut s = made(&plan_of(&[(10, 2, 0), (20, 2, 1)]));
+    for (at, byte, number) in
+        [(0, 0, BAD_IMAGE), (24, 1, BAD_IMAGE), (16, 0, BAD_IMAGE), (160, 0, CORRUPTED_SLAB)]
+    {
+        let old = std::mem::replace(&mut s.0[at], byte);
+        let before = s.clone();
+        assert_eq!(open(&s.0, &mut s.1), Err(number));
+        assert_eq!(record(&mut s.0, &mut s.1, 9, 9, INF, 0), Err(number));
+        assert_eq!(record_batch(&mut s.0, &mut s.1, &[], 0), Err(number));
+        assert_eq!(query(&s.0, &s.1, 9, 9, 9, (1, 0)).err(), Some(number));
+        assert_eq!(query_auto(&s.0, &s.1, 9, 9, (1, 0)).err(), Some(number));
+        assert_eq!(consolidate(&mut s.0, &mut s.1), Err(number));
+        assert!(s == before);
+        s.0[at] = old;
+    }
+    assert_eq!(open(&s.0, &mut s.1), Ok(()));
+    let short = s.0.len() - 1;
+    assert_eq!(open(&s.0[..short], &mut s.1), Err(BAD_IMAGE));
+}
