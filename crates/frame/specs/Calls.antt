@@ -1,5 +1,6 @@
--- Every call keeps an image in good order, refused or accepted, for any plan and any list of calls: header and rows stay, but for marks, and so do the lengths
--- of image and flags. A call on an image that does not pass the checks leaves all as it is. So the verdict of the checks never changes. Assumes nothing.
+-- Every call keeps an image in good order, refused or accepted, for any plan and any list of calls: header and rows stay, but for marks, and so do what lies
+-- behind the image and the flags past its rows. A call on an image that does not pass the checks leaves all as it is. So the verdict of the checks never
+-- changes. Assumes nothing.
 use Prim.Native.Nat.{ℕ, zero, suc, _-_, _<_}
 use native.Mathlib.Omega.{arith}
 use mathlib.Core.Path.{_≡_, refl, sym, ap, _∙_}
@@ -25,7 +26,7 @@ unfolding recordCheck handleOk
 record-schema l k c v t h =
     let a = first-zero (openCheck (l .image)) _ h in
     let b = first-zero (unless (ltb k (schemas (l .image)) && ltb c (seriesOf (tiers l k))) 11) _ (a .1) in
-    lt-is k (schemas (l .image)) (and-left (ltb k (schemas (l .image))) (ltb c (seriesOf (tiers l k))) (unless-zero (ltb k (schemas (l .image)) && ltb c (seriesOf (tiers l k))) 10 (b .0)))
+    lt-is k (schemas (l .image)) (and-left (ltb k (schemas (l .image))) (ltb c (seriesOf (tiers l k))) (unless-zero _ 10 (b .0)))
 
 stays-record : (n : ℕ) (l : Lent) → Good (l .image) → (k c v t : ℕ) → recordCheck l k c v t ≡ n → Stays l (recordOn n l k c v t)
 unfolding recordOn

@@ -9,7 +9,7 @@ use mathlib.Core.Bool.{true, false}
 use mathlib.Core.List.{List}
 use lib.ListN.{getD}
 use Rattle.model.specs.declared.Row.{Row}
-use Rattle.model.specs.Bytes.{get, put, put64, bytes}
+use Rattle.model.specs.Bytes.{get, part, put, put64, bytes}
 use Rattle.model.specs.Image.{schemas, rowCount, rowPlace, markAt, rowAt, slabOf, sound}
 use Rattle.model.specs.Lent.{Lent, row, ring}
 use Rattle.model.specs.Consolidate.{withMark}
@@ -81,11 +81,14 @@ module _ (s : List ℕ) (i t : ℕ) (g : Good s) (hi : i < rowCount s) (low : t 
   pub schemas-mark : schemas (marked s i t) ≡ schemas s
   schemas-mark = schemas-kept (marked s i t) s kept-mark
 
+  -- bytes behind the rows
+  pub part-mark : (p w : ℕ) → rowPlace (rowCount s) ≤ p → part (marked s i t) p w ≡ part s p w
+  unfolding put
+  part-mark p w h = part-splice (bytes 8 t) s p w (markAt i) (subst (Apart p w (markAt i)) (sym (length-bytes 8 t)) (behind (omega (arith, inside))))
+
   slab-stays : (j : ℕ) → j < rowCount s → slabOf (marked s i t) (rowAt s j) ≡ slabOf s (rowAt s j)
-  unfolding slabOf put
-  slab-stays j hj =
-      part-splice (bytes 8 t) s (rowAt s j .offset) (rowAt s j .len) (markAt i)
-      (subst (Apart (rowAt s j .offset) (rowAt s j .len) (markAt i)) (sym (length-bytes 8 t)) (behind (omega (arith, inside, behind-head s g j hj))))
+  unfolding slabOf
+  slab-stays j hj = part-mark (rowAt s j .offset) (rowAt s j .len) (behind-head s g j hj)
 
   pub slab-mark : (j : ℕ) → j < rowCount s → slabOf (marked s i t) (rowAt (marked s i t) j) ≡ slabOf s (rowAt s j)
   slab-mark j hj = slab-kept (marked s i t) s kept-mark j hj ∙ slab-stays j hj

@@ -52,7 +52,14 @@ module _ (d a n t : ℕ) (zs : List Sample) where
       rest f one pos top r s =
           let m = more ts (ys ++ y ∷ []) f top s (at .1) (regular-next d a n ys y (ts ++ zs) st reg) r in
           let w = append-assoc ys (y ∷ []) ts in
-          record { reach = f; either = one; pos = pos; top = top; reached = subst (λ (w : List Sample). Reached d a n w f) w (m .0); regular = λ c. subst (λ (w : List Sample). Regular d a w c) w (m .1 c) }
+          record {
+            reach = f;
+            either = one;
+            pos = pos;
+            top = top;
+            reached = subst (λ (v : List Sample). Reached d a n v f) w (m .0);
+            regular = λ c. subst (λ (v : List Sample). Regular d a v c) w (m .1 c);
+          }
 
       go : y .stamp ≡ (a + count (ofColumn (y .column)) ys) * d → Steady d a n ((ys ++ y ∷ []) ++ (ts ++ zs))
           → (count (ofColumn (y .column)) ys ≡ e) ⊎ (suc (count (ofColumn (y .column)) ys) ≡ e) → Ticked ys (y ∷ ts) e

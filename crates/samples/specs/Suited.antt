@@ -67,8 +67,8 @@ last-is s i zero = rw (add-zero i)
 last-is s i (suc k) = let e : i + suc k ≡ suc i + k = omega arith in rw e (last-is s (suc i) k)
 
 suited-from : (s : List ℕ) (n : ℕ) → suited (rowsFrom s 0 n) ≡ true
-    → (2 ≤ n) × (n ≤ 4) × ((i : ℕ) → suc i < n → Rung (rowAt s i) (rowAt s (suc i))) ×
-    ((i : ℕ) → i < n → rowAt s (n - 1) .interval ≤ rowSlots (rowAt s i) * rowAt s i .interval)
+    → (2 ≤ n) × (n ≤ 4) × ((i : ℕ) → suc i < n → Rung (rowAt s i) (rowAt s (suc i)))
+    × ((i : ℕ) → i < n → rowAt s (n - 1) .interval ≤ rowSlots (rowAt s i) * rowAt s i .interval)
 unfolding suited rowsFrom
 suited-from s zero h = absurd (false≢true h)
 suited-from s (suc k) h =
@@ -78,12 +78,13 @@ suited-from s (suc k) h =
     let v = split3 (leb 1 (length rs)) (leb (length rs) 3) (averaging (rowAt s 0) rs) u in
     let w = and-right (leb 1 (length rs) && leb (length rs) 3 && averaging (rowAt s 0) rs) (spanning D (rowAt s 0 ∷ rs)) h in
     let l = length-rowsFrom s 1 k in
+    let far = sym (spanning-every D (rowAt s 0 ∷ rs)) ∙ w in
     let e : 0 + k ≡ suc k - 1 = omega arith in
     let d : D ≡ rowAt s (suc k - 1) .interval = last-is s 0 k ∙ ap (λ (x : ℕ). rowAt s x .interval) e in (
       omega (arith, le-is 1 (length rs) (v .0)),
       omega (arith, le-is (length rs) 3 (v .1)),
       λ i p. averaging-at s 0 k (v .2) i (omega arith) (omega arith),
-      λ i p. rw d at (le-is D (rowSlots (rowAt s i) * rowAt s i .interval) (every-at (λ r. leb D (rowSlots r * r .interval)) s 0 (suc k) (sym (spanning-every D (rowAt s 0 ∷ rs)) ∙ w) i (omega arith) (omega arith))),
+      λ i p. rw d at (le-is D (rowSlots (rowAt s i) * rowAt s i .interval) (every-at (λ r. leb D (rowSlots r * r .interval)) s 0 (suc k) far i (omega arith) (omega arith))),
     )
 
 pub suited-parts : (s : List ℕ) → suited (rows s) ≡ true → Suited s

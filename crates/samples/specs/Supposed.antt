@@ -148,7 +148,14 @@ spans d D ρ xs zd zρ dD pos fw le lw = go (firstOf xs / D) ((lastOf xs + d) / 
         let kk : k ≡ a + (k - a) = omega arith in
         let lz : lastOf xs + d ≡ (a + (k - a)) * D = lk ∙ ap (λ (v : ℕ). v * D) kk in
         let lt : lastOf xs + d ≡ firstOf xs + (k - a) * ρ * d = lz ∙ lin (k - a) in
-        record { A = a; Z = k - a; A-pos = some a fa; first-is = fa; last-is = lz; ticks-are = ticks-between d (firstOf xs) (lastOf xs) ((k - a) * ρ) zd (mul-pos (omega arith) zρ) lt }
+        record {
+          A = a;
+          Z = k - a;
+          A-pos = some a fa;
+          first-is = fa;
+          last-is = lz;
+          ticks-are = ticks-between d (firstOf xs) (lastOf xs) ((k - a) * ρ) zd (mul-pos (omega arith) zρ) lt;
+        }
       where
         lin : (z : ℕ) → (a + z) * D ≡ firstOf xs + z * ρ * d
         lin z = rw (fa, dD) (omega arith)

@@ -1,0 +1,116 @@
+// What a call finds in the image and flags that it is lent, once opening's check has passed: the row of a schema's finest tier (11 InvalidHandle), a row's
+// slab with its sizes, a row's flag. Record, query and consolidation go from a handle to a slab by these.
+ghost use mathlib.Core.Path.{_≡_};
+ghost use mathlib.Core.Bool.{false};
+ghost use Prim.Native.Nat.{_+_, _<_, _≤_};
+ghost use lib.ListN.{getD};
+ghost use Rattle.model.specs.Bytes.{get};
+ghost use Rattle.model.specs.Image.{schemas, rowCount, rowPlace, rows, openCheck};
+ghost use Rattle.model.specs.Lent.{firstRow};
+ghost use Rattle.lent.specs.Parts.{SlabAt, finestOf, withFlag};
+
+// Where a row's slab stands in the image, and its sizes.
+pub struct Slab {
+    pub from: usize,
+    pub to: usize,
+    pub slots: usize,
+    pub series: usize,
+    pub interval: u64,
+}
+
+// The row of a handle's finest tier; none where the schema or the column is out of bounds.
+pub enum Finest {
+    At(usize),
+    Missing,
+}
+
+// A u32 of a row, `at` bytes behind its start.
+fn row_u32(image: &[u8], row: usize, at: usize) -> u64
+    requires { ⌜ openCheck (now image) ≡ 0 ⌝ }
+    requires { ⌜ (row < rowCount (now image)) × (at ≤ 60) ⌝ }
+    ensures { λ r. ⌜ (r ≡ get 4 (now (image .entry)) (rowPlace row + at)) × (r < 4294967296) ⌝ }
+{
+    field::get_u32(image, 32 + 64 * row + at)
+}
+
+// A u64 of a row, `at` bytes behind its start.
+fn row_u64(image: &[u8], row: usize, at: usize) -> u64
+    requires { ⌜ openCheck (now image) ≡ 0 ⌝ }
+    requires { ⌜ (row < rowCount (now image)) × (at ≤ 56) ⌝ }
+    ensures { λ r. ⌜ r ≡ get 8 (now (image .entry)) (rowPlace row + at) ⌝ }
+{
+    field::get_u64(image, 32 + 64 * row + at)
+}
+
+// A row's slab.
+pub fn slab_at(image: &[u8], row: usize) -> Slab
+    requires { ⌜ openCheck (now image) ≡ 0 ⌝ }
+    requires { ⌜ row < rowCount (now image) ⌝ }
+    ensures { λ r. ⌜ SlabAt (now (image .entry)) row (r .from) (r .to) (r .slots) (r .series) (r .interval) ⌝ }
+{
+    let interval = row_u64(image, row, 8);
+    let series = row_u32(image, row, 28) as usize;
+    let from = row_u64(image, row, 32) as usize;
+    let len = row_u64(image, row, 40) as usize;
+    let slots = field::get_u32(image, from + 16) as usize;
+    Slab {
+        from: from,
+        to: from + len,
+        slots: slots,
+        series: series,
+        interval: interval,
+    }
+}
+
+// The first row of a schema.
+fn first_row(image: &[u8], schema: u64) -> usize
+    requires { ⌜ openCheck (now image) ≡ 0 ⌝ }
+    requires { ⌜ schema < schemas (now image) ⌝ }
+    ensures { λ r. ⌜ (r ≡ firstRow schema (rows (now (image .entry)))) × (r < rowCount (now (image .entry))) ⌝ }
+{
+    let count = field::get_u32(image, 12) as usize;
+    let mut i = 0;
+    while i < count {
+        let s = row_u32(image, i, 0);
+        if s == schema {
+            return i;
+        }
+        i += 1;
+    }
+    i
+}
+
+// The row of a handle's finest tier.
+pub fn finest_row(image: &[u8], schema: u64, column: u64) -> Finest
+    requires { ⌜ openCheck (now image) ≡ 0 ⌝ }
+    ensures { λ r. ⌜ r ≡ finestOf (now (image .entry)) schema column ⌝ }
+{
+    let count = field::get_u32(image, 8);
+    if schema >= count {
+        return Finest::Missing;
+    }
+    let row = first_row(image, schema);
+    let series = row_u32(image, row, 28);
+    if column >= series {
+        return Finest::Missing;
+    }
+    Finest::At(row)
+}
+
+// A row's flag.
+pub fn flag(flags: model::Flags, row: usize) -> bool
+    requires { ⌜ row < 32 ⌝ }
+    ensures { λ r. ⌜ r ≡ getD (flags .wrapped) row false ⌝ }
+{
+    flags.wrapped[row]
+}
+
+// The flags with a row's flag set.
+pub fn with_flag(flags: model::Flags, row: usize, wrapped: bool) -> model::Flags
+    requires { ⌜ row < 32 ⌝ }
+    ensures { λ r. ⌜ r ≡ withFlag flags row wrapped ⌝ }
+{
+    let mut next = flags;
+    next.wrapped[row] = wrapped;
+    next
+}

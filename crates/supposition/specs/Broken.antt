@@ -1,0 +1,82 @@
+-- For each clause of the third demand's supposition a plan or a list of calls that breaks it, and is refused by it; and some that meet it. By computation.
+-- Assumes nothing.
+use Prim.Native.Nat.{ℕ, zero, suc, _+_, _*_, _^_}
+use mathlib.Core.Path.{_≡_, refl}
+use mathlib.Core.Bool.{Bool, true, false}
+use mathlib.Core.List.{List, [], _∷_, _++_, map}
+use lib.ListN.{length, replicate}
+use Rattle.model.specs.declared.Row.{Row}
+use Rattle.model.specs.Store.{Call, recordCall, batchCall, consolidateCall}
+use Rattle.model.specs.Demand.{Situation, suited, supposed, history}
+use Rattle.model.specs.Cases.{tier, plan, num}
+use Rattle.model.specs.Instance.{Instance-defs, both}
+
+-- ---- plans that are not suited: one tier, five tiers, a ratio that is not whole, a ratio of 4,097, a tier that takes the least, slots that do not span the
+-- coarsest interval; and one with the ratio 4,096
+
+unfoldable pub unsuited : List Bool
+unsuited =
+    suited (tier 0 10 40 0 ∷ []) ∷ suited (tier 0 1 16 0 ∷ tier 1 2 16 1 ∷ tier 2 4 16 1 ∷ tier 3 8 16 1 ∷ tier 4 16 16 1 ∷ [])
+    ∷ suited (tier 0 10 45 0 ∷ tier 1 15 45 1 ∷ []) ∷ suited (tier 0 1 4097 0 ∷ tier 1 4097 4097 1 ∷ [])
+    ∷ suited (tier 0 10 40 0 ∷ tier 1 20 60 2 ∷ []) ∷ suited (tier 0 10 40 0 ∷ tier 1 20 40 1 ∷ tier 2 60 60 1 ∷ [])
+    ∷ suited (tier 0 1 4096 0 ∷ tier 1 4096 4096 1 ∷ []) ∷ []
+
+pub unsuited-are : unsuited ≡ false ∷ false ∷ false ∷ false ∷ false ∷ false ∷ true ∷ []
+unfolding Instance-defs unsuited
+unsuited-are = refl
+
+-- ---- lists that break the supposition, on 10 and 20 ns
+
+unfoldable pub isSupposed : List Call → Bool
+isSupposed cs =
+    let s : Situation = record { plan = plan (tier 0 10 20 0 ∷ tier 1 20 20 1 ∷ []); buf = replicate 480 9; flags = replicate 32 true; before = cs; between = []; column = 0; tier = 0 } in
+    supposed 10 20 (history s)
+
+-- a run follows each list. Good: one interval; two intervals; a run twice
+unfoldable pub good : List Bool
+good =
+    isSupposed (both 20 (num 1) (num 2) ∷ both 30 (num 1) (num 2) ∷ [])
+    ∷ isSupposed (both 20 (num 1) (num 2) ∷ both 30 (num 1) (num 2) ∷ consolidateCall ∷ both 40 (num 1) (num 2) ∷ both 50 (num 1) (num 2) ∷ [])
+    ∷ isSupposed (recordCall 0 1 (num 1) 20 ∷ recordCall 0 1 (num 1) 30 ∷ consolidateCall ∷ []) ∷ []
+
+pub good-are : good ≡ true ∷ true ∷ true ∷ []
+unfolding Instance-defs isSupposed good
+good-are = refl
+
+-- the runs: none behind the first interval; one too early; one before a last sample; no sample at all
+unfoldable pub offSchedule : List Bool
+offSchedule =
+    isSupposed (both 20 (num 1) (num 2) ∷ both 30 (num 1) (num 2) ∷ both 40 (num 1) (num 2) ∷ both 50 (num 1) (num 2) ∷ [])
+    ∷ isSupposed (both 20 (num 1) (num 2) ∷ consolidateCall ∷ both 30 (num 1) (num 2) ∷ [])
+    ∷ isSupposed (both 20 (num 1) (num 2) ∷ recordCall 0 0 (num 2) 30 ∷ consolidateCall ∷ recordCall 0 1 (num 2) 30 ∷ [])
+    ∷ isSupposed [] ∷ []
+
+pub off-schedule : offSchedule ≡ false ∷ false ∷ false ∷ false ∷ []
+unfolding Instance-defs isSupposed offSchedule
+off-schedule = refl
+
+-- the ticks: a gap; a column that begins late; one that stops early; a tick twice; a stamp between ticks; stamps that fall; a start that is no multiple of
+-- the coarsest interval
+unfoldable pub offTicks : List Bool
+offTicks =
+    isSupposed (both 20 (num 1) (num 2) ∷ both 30 (num 1) (num 2) ∷ consolidateCall ∷ both 50 (num 1) (num 2) ∷ [])
+    ∷ isSupposed (recordCall 0 0 (num 1) 20 ∷ both 30 (num 1) (num 2) ∷ [])
+    ∷ isSupposed (both 20 (num 1) (num 2) ∷ recordCall 0 0 (num 1) 30 ∷ [])
+    ∷ isSupposed (both 20 (num 1) (num 2) ∷ both 30 (num 1) (num 2) ∷ both 30 (num 1) (num 2) ∷ [])
+    ∷ isSupposed (both 20 (num 1) (num 2) ∷ both 25 (num 1) (num 2) ∷ both 30 (num 1) (num 2) ∷ [])
+    ∷ isSupposed (recordCall 0 0 (num 1) 20 ∷ recordCall 0 0 (num 1) 30 ∷ recordCall 0 1 (num 1) 20 ∷ recordCall 0 1 (num 1) 30 ∷ [])
+    ∷ isSupposed (both 30 (num 1) (num 1) ∷ []) ∷ []
+
+pub off-ticks : offTicks ≡ false ∷ false ∷ false ∷ false ∷ false ∷ false ∷ false ∷ []
+unfolding Instance-defs isSupposed offTicks
+off-ticks = refl
+
+-- the values: NaN; 2^30 + 1; a half. 2^30 itself is good
+unfoldable pub offValues : List Bool
+offValues =
+    isSupposed (both 20 (num 1) 0x7ff8_0000_0000_0000 ∷ both 30 (num 1) (num 2) ∷ []) ∷ isSupposed (both 20 (num 1) (num 1_073_741_825) ∷ both 30 (num 1) (num 2) ∷ [])
+    ∷ isSupposed (both 20 (num 1) 0x3fe0_0000_0000_0000 ∷ both 30 (num 1) (num 2) ∷ []) ∷ isSupposed (both 20 (num 1) (num 1_073_741_824) ∷ both 30 (num 1) (num 2) ∷ []) ∷ []
+
+pub off-values : offValues ≡ false ∷ false ∷ false ∷ true ∷ []
+unfolding Instance-defs isSupposed offValues
+off-values = refl
