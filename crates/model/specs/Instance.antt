@@ -13,7 +13,7 @@ use Rattle.model.specs.declared.Point.{Point}
 use Rattle.model.specs.Image.{rows, createCheck}
 use Rattle.model.specs.Record.{Entry}
 use Rattle.model.specs.Store.{Call, recordCall, batchCall, queryCall, autoCall, consolidateCall}
-use Rattle.model.specs.Demand.{Demand-defs, Situation, suited, supposed, history, finest, coarsest, each, samples, due, answers, tierInterval, used, events, afterRun}
+use Rattle.model.specs.Demand.{Demand-defs, Situation, Event, took, ran, samplesIn, suited, supposed, history, newestWindows, each, answers, used, events, afterRun}
 use Rattle.model.specs.Cases.{Cases-defs, tierOf, tier, plan, num, infinity, at}
 
 -- ---- the list
@@ -65,19 +65,38 @@ pub suited-plan : T (suited (rows (plan tiers)))
 unfolding Instance-defs
 suited-plan = tt
 
-pub met : T (supposed 10 40 (history (story 0)))
-unfolding Instance-defs
-met = tt
+-- what the calls did: the samples of both columns, and three runs
+unfoldable pub sample : ℕ → ℕ → ℕ → Event
+sample t c v = took (record { column = c; stamp = t; value = v })
+
+unfoldable pub did : List Event
+did =
+    sample 40 1 (num 1) ∷ sample 40 0 minusZero ∷ sample 50 0 (num 3) ∷ sample 50 1 (minus 3) ∷ sample 60 1 (num 7) ∷ sample 60 0 (num 7)
+    ∷ sample 70 1 (num 2) ∷ sample 70 0 (minus 0) ∷ ran ∷ ran
+    ∷ sample 80 1 (num 1) ∷ sample 80 0 (num 2) ∷ sample 90 1 (num 2) ∷ sample 90 0 (num 5) ∷ sample 100 1 (num 1) ∷ sample 100 0 (num 2)
+    ∷ sample 110 1 (num 4) ∷ sample 110 0 (num 2) ∷ ran ∷ []
+
+pub history-is : (k : ℕ) → history (story k) ≡ did
+unfolding Instance-defs sample did
+history-is k = refl
+
+-- the supposition is met by it, and column 1 is used
+pub met : T (supposed 10 40 did) × T (used 1 (samplesIn did))
+unfolding Instance-defs sample did
+met = (tt, tt)
 
 pub quiet : events (afterRun (story 0)) (story 0 .between) ≡ []
 unfolding Instance-defs
 quiet = refl
 
--- the windows that are due at each tier, and the points: 1, 2, 1 and 4; 1.5 and 2.5; 2
-pub dues : map (λ (k : ℕ). due (story k)) (0 ∷ 1 ∷ 2 ∷ []) ≡ (80 ∷ 90 ∷ 100 ∷ 110 ∷ []) ∷ (80 ∷ 100 ∷ []) ∷ (80 ∷ []) ∷ []
-unfolding Instance-defs
+-- the windows that are due at the three tiers
+pub dues :
+    newestWindows 10 10 4 (samplesIn did) ∷ newestWindows 10 20 2 (samplesIn did) ∷ newestWindows 10 40 1 (samplesIn did) ∷ []
+    ≡ (80 ∷ 90 ∷ 100 ∷ 110 ∷ []) ∷ (80 ∷ 100 ∷ []) ∷ (80 ∷ []) ∷ []
+unfolding Instance-defs sample did
 dues = refl
 
+-- the points: 1, 2, 1 and 4; 1.5 and 2.5; 2
 pub points-0 : answers (story 0) ≡ at 80 1 ∷ at 90 2 ∷ at 100 1 ∷ at 110 4 ∷ []
 unfolding Instance-defs
 points-0 = refl
@@ -91,6 +110,6 @@ unfolding Instance-defs
 points-2 = refl
 
 -- they are as promised
-pub promised : T (each 1 (tierInterval (story 2)) 2 (samples (story 2)) (due (story 2)) (answers (story 2)))
-unfolding Instance-defs
+pub promised : T (each 1 40 2 (samplesIn did) (80 ∷ []) (at 80 2 ∷ []))
+unfolding Instance-defs sample did
 promised = tt
