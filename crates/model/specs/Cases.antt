@@ -1,4 +1,4 @@
--- The cases A to L of document 01 as rows of one table, and an example of every refusal as rows of another; the theorems that each row holds, by computation.
+-- The cases A to L of document 01 as rows of one table, and the theorem that each row holds, by computation.
 -- The stores have two series, so that the Rust can run the same rows. Assumes nothing.
 use Prim.Native.Nat.{ℕ, zero, suc, _+_, _*_, _^_}
 use mathlib.Core.Path.{_≡_, refl}

@@ -115,7 +115,7 @@ unfoldable pub orZero : End → ℕ
 orZero Missing = 0
 orZero (At t) = t
 
--- where the reading starts: at the oldest stamp if the mark is 0, else one source interval behind the mark
+-- where the reading starts: at the oldest stamp if the mark is 0, else at mark + source interval
 unfoldable pub startOf : ℕ → ℕ → Ring → ℕ
 startOf zero d r = orZero (oldest r)
 startOf (suc k) d r = suc k + d

@@ -143,7 +143,7 @@ gapless c d t (suc n) xs = eqb (count (isAt c t) xs) 1 && gapless c d (t + d) n 
 unfoldable pub endsInterval : ℕ → ℕ → ℕ → Bool
 endsInterval d D p = ltb 0 p && eqb ((p + d) % D) 0
 
--- runs stand just behind each coarsest interval's last sample, and nowhere else. p is the last sample's stamp so far, 0 before the first; b says that a run
+-- runs stand just after each coarsest interval's last sample, and nowhere else. p is the last sample's stamp so far, 0 before the first; b says that a run
 -- has followed it
 unfoldable pub scheduled : ℕ → ℕ → ℕ → Bool → List Event → Bool
 scheduled d D p b [] = true

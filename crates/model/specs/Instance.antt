@@ -2,7 +2,7 @@
 -- definitions, so that an edit of one meets it. Assumes nothing.
 use Prim.Native.Nat.{ℕ, zero, suc, _+_, _*_, _^_}
 use mathlib.Core.Path.{_≡_, refl}
-use mathlib.Core.Bool.{Bool, true, false}
+use mathlib.Core.Bool.{Bool, true, false, _&&_}
 use mathlib.Core.List.{List, [], _∷_, _++_, map}
 use lib.ListN.{length, replicate}
 use lib.Dec.{T}
@@ -38,17 +38,17 @@ unfoldable pub calls : List Call
 calls =
     both 40 (num 1) minusZero ∷ recordCall 0 0 (num 3) 50 ∷ recordCall 0 1 (num 3) 0 ∷ recordCall 0 1 (minus 3) 50 ∷ both 60 (num 7) (num 7)
     ∷ both 70 (num 2) (minus 0) ∷ queryCall 0 0 0 0 9 ∷ consolidateCall ∷ consolidateCall ∷ batchCall [] 0
-    ∷ both 80 (num 1) (num 2) ∷ both 90 (num 2) (num 5) ∷ both 100 (num 1) (num 2) ∷ recordCall 0 1 infinity 110 ∷ both 110 (num 4) (num 2) ∷ []
+    ∷ recordCall 0 0 (num 2) 80 ∷ recordCall 0 1 (num 1) 80 ∷ both 90 (num 2) (num 5) ∷ both 100 (num 1) (num 2) ∷ recordCall 0 1 infinity 110 ∷ both 110 (num 4) (num 2) ∷ []
 
--- column 1 at tier k; a refused record and a query stand between the run and the query
-unfoldable pub story : ℕ → Situation
-story k = record {
+-- column c at tier k; a refused record and a query stand between the run and the query
+unfoldable pub story : ℕ → ℕ → Situation
+story c k = record {
   plan = plan tiers;
   buf = replicate 610 9;
   flags = replicate 32 true;
   before = calls;
   between = recordCall 0 9 0 0 ∷ autoCall 0 1 0 9 ∷ [];
-  column = 1;
+  column = c;
   tier = k;
 }
 
@@ -73,19 +73,19 @@ unfoldable pub did : List Event
 did =
     sample 40 1 (num 1) ∷ sample 40 0 minusZero ∷ sample 50 0 (num 3) ∷ sample 50 1 (minus 3) ∷ sample 60 1 (num 7) ∷ sample 60 0 (num 7)
     ∷ sample 70 1 (num 2) ∷ sample 70 0 (minus 0) ∷ ran ∷ ran
-    ∷ sample 80 1 (num 1) ∷ sample 80 0 (num 2) ∷ sample 90 1 (num 2) ∷ sample 90 0 (num 5) ∷ sample 100 1 (num 1) ∷ sample 100 0 (num 2)
+    ∷ sample 80 0 (num 2) ∷ sample 80 1 (num 1) ∷ sample 90 1 (num 2) ∷ sample 90 0 (num 5) ∷ sample 100 1 (num 1) ∷ sample 100 0 (num 2)
     ∷ sample 110 1 (num 4) ∷ sample 110 0 (num 2) ∷ ran ∷ []
 
-pub history-is : (k : ℕ) → history (story k) ≡ did
+pub history-is : (c k : ℕ) → history (story c k) ≡ did
 unfolding Instance-defs sample did
-history-is k = refl
+history-is c k = refl
 
 -- the supposition is met by it, and column 1 is used
 pub met : T (supposed 10 40 did) × T (used 1 (samplesIn did))
 unfolding Instance-defs sample did
 met = (tt, tt)
 
-pub quiet : events (afterRun (story 0)) (story 0 .between) ≡ []
+pub quiet : events (afterRun (story 1 0)) (story 1 0 .between) ≡ []
 unfolding Instance-defs
 quiet = refl
 
@@ -97,19 +97,38 @@ unfolding Instance-defs sample did
 dues = refl
 
 -- the points: 1, 2, 1 and 4; 1.5 and 2.5; 2
-pub points-0 : answers (story 0) ≡ at 80 1 ∷ at 90 2 ∷ at 100 1 ∷ at 110 4 ∷ []
+pub points-0 : answers (story 1 0) ≡ at 80 1 ∷ at 90 2 ∷ at 100 1 ∷ at 110 4 ∷ []
 unfolding Instance-defs
 points-0 = refl
 
-pub points-1 : answers (story 1) ≡ record { stamp = 80; value = 0x3ff8_0000_0000_0000 } ∷ record { stamp = 100; value = 0x4004_0000_0000_0000 } ∷ []
+pub points-1 : answers (story 1 1) ≡ record { stamp = 80; value = 0x3ff8_0000_0000_0000 } ∷ record { stamp = 100; value = 0x4004_0000_0000_0000 } ∷ []
 unfolding Instance-defs
 points-1 = refl
 
-pub points-2 : answers (story 2) ≡ at 80 2 ∷ []
+pub points-2 : answers (story 1 2) ≡ at 80 2 ∷ []
 unfolding Instance-defs
 points-2 = refl
 
+-- column 0: 3.5 and 2
+pub points-other : answers (story 0 1) ≡ record { stamp = 80; value = 0x400c_0000_0000_0000 } ∷ at 100 2 ∷ []
+unfolding Instance-defs
+points-other = refl
+
 -- they are as promised
-pub promised : T (each 1 40 2 (samplesIn did) (80 ∷ []) (at 80 2 ∷ []))
+pub promised :
+    each 1 10 0 (samplesIn did) (80 ∷ 90 ∷ 100 ∷ 110 ∷ []) (at 80 1 ∷ at 90 2 ∷ at 100 1 ∷ at 110 4 ∷ [])
+    && each 1 20 1 (samplesIn did) (80 ∷ 100 ∷ []) (record { stamp = 80; value = 0x3ff8_0000_0000_0000 } ∷ record { stamp = 100; value = 0x4004_0000_0000_0000 } ∷ [])
+    && each 1 40 2 (samplesIn did) (80 ∷ []) (at 80 2 ∷ [])
+    ≡ true
 unfolding Instance-defs sample did
-promised = tt
+promised = refl
+
+-- and not: a point dropped, one more, two exchanged, a wrong stamp, 1 / 1,024 off at tier 2; 1 / 2,048 off is within the bound
+pub not-promised :
+    each 1 10 0 (samplesIn did) (80 ∷ 90 ∷ []) (at 80 1 ∷ []) ∷ each 1 10 0 (samplesIn did) (80 ∷ []) (at 80 1 ∷ at 90 2 ∷ [])
+    ∷ each 1 10 0 (samplesIn did) (80 ∷ 90 ∷ []) (at 90 2 ∷ at 80 1 ∷ []) ∷ each 1 10 0 (samplesIn did) (80 ∷ []) (at 90 1 ∷ [])
+    ∷ each 1 40 2 (samplesIn did) (80 ∷ []) (record { stamp = 80; value = 0x4000_0200_0000_0000 } ∷ [])
+    ∷ each 1 40 2 (samplesIn did) (80 ∷ []) (record { stamp = 80; value = 0x4000_0100_0000_0000 } ∷ []) ∷ []
+    ≡ false ∷ false ∷ false ∷ false ∷ false ∷ true ∷ []
+unfolding Instance-defs sample did
+not-promised = refl

@@ -33,7 +33,7 @@ stepped x i k = record { next = x; place = record { slot = i; left = k } }
 unfoldable pub handed : List ℕ → ℕ → ℕ → Next
 handed s c i = Handed (record { stamp = stamp s i; value = cell s c i })
 
--- from slot i on with k slots left: the first of them that is handed out, and the place behind it
+-- from slot i on with k slots left: the first of them that is handed out, and the place after it
 unfoldable pub stepFrom : List ℕ → ℕ → ℕ → ℕ → ℕ → ℕ → Stepped
 stepFrom s c start end i zero = stepped Finished i 0
 stepFrom s c start end i (suc k) =

@@ -1,4 +1,4 @@
--- An example of every refusal 1 to 16, and of the order in which they are tried, by computation; each with what it leaves. Assumes nothing.
+-- An example of every refusal 1 to 16, and of the order in which they are tried, by computation; some with what they leave. Assumes nothing.
 use Prim.Native.Nat.{ℕ, zero, suc, _+_, _-_, _*_, _^_}
 use mathlib.Core.Path.{_≡_, refl}
 use mathlib.Core.Bool.{Bool, true, false}
@@ -21,6 +21,11 @@ long = replicate 700 0
 unfoldable pub created : List ℕ → ℕ
 created p = createCheck p long
 
+-- n rows alike
+unfoldable pub copiesOf : ℕ → Row → List Row
+copiesOf zero r = []
+copiesOf (suc n) r = r ∷ copiesOf n r
+
 -- a field of the good plan of one ring of four slots changed: w bytes at o become x
 unfoldable pub changed : ℕ → ℕ → ℕ → List ℕ
 changed w o x = put w (plan (ring10 4)) o x
@@ -28,7 +33,7 @@ changed w o x = put w (plan (ring10 4)) o x
 unfoldable pub plans : List ℕ
 plans =
     created (plan (ring10 4))
-    -- 1: magic; version; no schema; nine schemas; 33 rows; header's zero bytes; total length; a slice that ends in the header, and in the row
+    -- 1: magic; version; no schema; nine schemas; 33 rows in a slice of one; header's zero bytes; total length; a slice that ends in the header, and in the row
     ∷ created (changed 4 0 0) ∷ created (changed 4 4 2) ∷ created (changed 4 8 0) ∷ created (changed 4 8 9) ∷ created (changed 4 12 33) ∷ created (changed 8 24 1)
     ∷ created (changed 8 16 1) ∷ created (take 31 (plan (ring10 4))) ∷ created (take 95 (plan (ring10 4)))
     -- 1: schema not below S; first tier not 0; function 7; offset, slab length and mark not zero
@@ -36,6 +41,8 @@ plans =
     -- 1: rows of a schema that disagree in max series; a tier left out; schemas that fall
     ∷ created (plan (tier 0 10 40 0 ∷ tierOf 0 1 20 40 1 3 ∷ [])) ∷ created (plan (tier 0 10 40 0 ∷ tier 2 20 40 1 ∷ []))
     ∷ created (planOf 2 (tierOf 1 0 10 40 0 2 ∷ tierOf 0 0 10 40 0 2 ∷ []))
+    -- 1: rows of a schema that disagree in hash; no schema and no row; 33 rows
+    ∷ created (put 8 (plan (tier 0 10 40 0 ∷ tier 1 20 40 1 ∷ [])) 152 8) ∷ created (planOf 0 []) ∷ created (planOf 8 (copiesOf 33 (tier 0 10 40 0)))
     -- 2: no rows; schema 1 has none; schema 0 has none
     ∷ created (plan []) ∷ created (planOf 2 (ring10 4)) ∷ created (planOf 2 (tierOf 1 0 10 40 0 2 ∷ []))
     -- 3
@@ -69,7 +76,7 @@ openings =
     opened 4 0 0x4f545352
     -- 1: total length, offset, slab length, a mark of 2^63, a slice shorter than the image
     ∷ opened 8 16 265 ∷ opened 8 64 97 ∷ opened 8 72 169 ∷ opened 8 80 (2 ^ 63) ∷ openCheck (take 263 (fresh (ring10 4) .image))
-    -- a longer slice, and a mark below 2^63, are good
+    -- a slice as long as the image, and a mark below 2^63, are good
     ∷ openCheck (take 264 (fresh (ring10 4) .image)) ∷ opened 8 80 (2 ^ 63 - 1)
     -- 10: magic, version, hash, slots, series, interval, cursor; and not: series count, reserved, directory
     ∷ opened 4 96 0 ∷ opened 4 100 2 ∷ opened 8 104 8 ∷ opened 4 112 5 ∷ opened 4 116 3 ∷ opened 8 120 11 ∷ opened 4 128 4
@@ -124,7 +131,7 @@ onDamaged =
     on s (recordCall 1 0 0 30) ∷ on s (batchCall [] 0) ∷ on s (queryCall 0 2 2 5 5) ∷ on s (autoCall 0 2 5 5) ∷ on s consolidateCall ∷ []
 
 unfoldable Refusals-defs : Unit {0}
-unfolding Cases-defs long created changed plans order opened openings store late damaged numberIn on entry recordings queriesAndRuns onDamaged
+unfolding Cases-defs long copiesOf created changed plans order opened openings store late damaged numberIn on entry recordings queriesAndRuns onDamaged
 Refusals-defs = tt
 
 pub plans-are :
@@ -132,6 +139,7 @@ pub plans-are :
     ≡ 0
     ∷ 1 ∷ 1 ∷ 1 ∷ 1 ∷ 1 ∷ 1 ∷ 1 ∷ 1 ∷ 1
     ∷ 1 ∷ 1 ∷ 1 ∷ 1 ∷ 1 ∷ 1
+    ∷ 1 ∷ 1 ∷ 1
     ∷ 1 ∷ 1 ∷ 1
     ∷ 2 ∷ 2 ∷ 2
     ∷ 3
@@ -163,7 +171,7 @@ pub on-damaged : onDamaged ≡ 10 ∷ 10 ∷ 10 ∷ 10 ∷ 10 ∷ []
 unfolding Refusals-defs
 on-damaged = refl
 
--- a refusal changes nothing: each of the refused calls leaves what it was lent
+-- a refusal changes nothing: these refused calls leave what they were lent
 pub unchanged :
     (call store (recordCall 1 0 0 30) .lent ≡ store) × (call store (recordCall 0 1 infinity 0) .lent ≡ store) × (call store (recordCall 0 1 0 0) .lent ≡ store)
     × (call store (batchCall (entry 0 0 0 ∷ entry 0 1 infinity ∷ []) 30) .lent ≡ store) × (call store consolidateCall .lent ≡ store)

@@ -2,9 +2,15 @@
 -- Lent. Assumes nothing.
 use Prim.Native.Nat.{ℕ, zero, suc}
 use mathlib.Core.List.{List, [], _∷_}
+use Rattle.model.specs.declared.Outcome.{Outcome}
+use Rattle.model.specs.declared.Outcome.the-variants as O
+use Rattle.model.specs.declared.Consolidated.{Consolidated}
+use Rattle.model.specs.declared.Consolidated.the-variants as C
+use Rattle.model.specs.declared.Queried.{Queried}
+use Rattle.model.specs.Words.{numberOf}
 use Rattle.model.specs.Lent.{Lent}
 use Rattle.model.specs.Record.{Entry, recordCheck, recordOn, batchCheck, batchOn}
-use Rattle.model.specs.Query.{Answered, QueryReply, found, notFound, query, queryAuto}
+use Rattle.model.specs.Query.{Answered, QueryReply, found, notFound, query, queryAuto, repliedBy}
 use Rattle.model.specs.Consolidate.{Run, run}
 
 pub data Call : Type 0 where
@@ -57,7 +63,21 @@ unfoldable pub replies : Lent → List Call → List Reply
 replies l [] = []
 replies l (c ∷ cs) = let d = call l c in d .reply ∷ replies (d .lent) cs
 
+-- ---- the code's answers as replies, so that a promise says `.. ≡ call .. .reply`
+
+unfoldable pub outcomeReply : Outcome → Reply
+outcomeReply O.Accepted = done
+outcomeReply (O.Refused r) = refused (numberOf r)
+
+unfoldable pub consolidatedReply : Consolidated → Reply
+consolidatedReply (C.Wrote k) = wrote k
+consolidatedReply (C.Refused r) = refused (numberOf r)
+
+-- a query's, on the image that it was lent
+unfoldable pub queriedReply : List ℕ → Queried → Reply
+queriedReply s q = readOr (repliedBy s q)
+
 -- names every definition of this module, for a proof by computation: `unfolding Store-defs`
 unfoldable pub Store-defs : Unit {0}
-unfolding doneOr wroteOr readOr finished call after replies
+unfolding doneOr wroteOr readOr finished call after replies outcomeReply consolidatedReply queriedReply
 Store-defs = tt

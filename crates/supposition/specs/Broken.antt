@@ -17,7 +17,7 @@ use Rattle.model.specs.Instance.{Instance-defs, both}
 unfoldable pub unsuited : List Bool
 unsuited =
     suited (tier 0 10 40 0 ∷ []) ∷ suited (tier 0 1 16 0 ∷ tier 1 2 16 1 ∷ tier 2 4 16 1 ∷ tier 3 8 16 1 ∷ tier 4 16 16 1 ∷ [])
-    ∷ suited (tier 0 10 45 0 ∷ tier 1 15 45 1 ∷ []) ∷ suited (tier 0 1 4097 0 ∷ tier 1 4097 4097 1 ∷ [])
+    ∷ suited (tier 0 10 50 0 ∷ tier 1 25 50 1 ∷ []) ∷ suited (tier 0 1 4097 0 ∷ tier 1 4097 4097 1 ∷ [])
     ∷ suited (tier 0 10 40 0 ∷ tier 1 20 60 2 ∷ []) ∷ suited (tier 0 10 40 0 ∷ tier 1 20 40 1 ∷ tier 2 60 60 1 ∷ [])
     ∷ suited (tier 0 1 4096 0 ∷ tier 1 4096 4096 1 ∷ []) ∷ []
 
@@ -25,12 +25,16 @@ pub unsuited-are : unsuited ≡ false ∷ false ∷ false ∷ false ∷ false �
 unfolding Instance-defs unsuited
 unsuited-are = refl
 
--- ---- lists that break the supposition, on 10 and 20 ns
+-- ---- lists that break the supposition
+
+-- finest interval 10, coarsest D, one coarsest interval's slots
+unfoldable pub isSupposedAt : ℕ → List Call → Bool
+isSupposedAt D cs =
+    let s : Situation = record { plan = plan (tier 0 10 D 0 ∷ tier 1 D D 1 ∷ []); buf = replicate 500 9; flags = replicate 32 true; before = cs; between = []; column = 0; tier = 0 } in
+    supposed 10 D (history s)
 
 unfoldable pub isSupposed : List Call → Bool
-isSupposed cs =
-    let s : Situation = record { plan = plan (tier 0 10 20 0 ∷ tier 1 20 20 1 ∷ []); buf = replicate 480 9; flags = replicate 32 true; before = cs; between = []; column = 0; tier = 0 } in
-    supposed 10 20 (history s)
+isSupposed cs = isSupposedAt 20 cs
 
 -- a run follows each list. Good: one interval; two intervals; a run twice
 unfoldable pub good : List Bool
@@ -40,7 +44,7 @@ good =
     ∷ isSupposed (recordCall 0 1 (num 1) 20 ∷ recordCall 0 1 (num 1) 30 ∷ consolidateCall ∷ []) ∷ []
 
 pub good-are : good ≡ true ∷ true ∷ true ∷ []
-unfolding Instance-defs isSupposed good
+unfolding Instance-defs isSupposedAt isSupposed good
 good-are = refl
 
 -- the runs: none behind the first interval; one too early; one before a last sample; no sample at all
@@ -52,7 +56,7 @@ offSchedule =
     ∷ isSupposed [] ∷ []
 
 pub off-schedule : offSchedule ≡ false ∷ false ∷ false ∷ false ∷ []
-unfolding Instance-defs isSupposed offSchedule
+unfolding Instance-defs isSupposedAt isSupposed offSchedule
 off-schedule = refl
 
 -- the ticks: a gap; a column that begins late; one that stops early; a tick twice; a stamp between ticks; stamps that fall; a start that is no multiple of
@@ -64,11 +68,11 @@ offTicks =
     ∷ isSupposed (both 20 (num 1) (num 2) ∷ recordCall 0 0 (num 1) 30 ∷ [])
     ∷ isSupposed (both 20 (num 1) (num 2) ∷ both 30 (num 1) (num 2) ∷ both 30 (num 1) (num 2) ∷ [])
     ∷ isSupposed (both 20 (num 1) (num 2) ∷ both 25 (num 1) (num 2) ∷ both 30 (num 1) (num 2) ∷ [])
-    ∷ isSupposed (recordCall 0 0 (num 1) 20 ∷ recordCall 0 0 (num 1) 30 ∷ recordCall 0 1 (num 1) 20 ∷ recordCall 0 1 (num 1) 30 ∷ [])
+    ∷ isSupposedAt 40 (recordCall 0 0 (num 1) 40 ∷ recordCall 0 0 (num 1) 50 ∷ recordCall 0 1 (num 1) 40 ∷ recordCall 0 1 (num 1) 50 ∷ both 60 (num 1) (num 1) ∷ both 70 (num 1) (num 1) ∷ [])
     ∷ isSupposed (both 30 (num 1) (num 1) ∷ []) ∷ []
 
 pub off-ticks : offTicks ≡ false ∷ false ∷ false ∷ false ∷ false ∷ false ∷ false ∷ []
-unfolding Instance-defs isSupposed offTicks
+unfolding Instance-defs isSupposedAt isSupposed offTicks
 off-ticks = refl
 
 -- the values: NaN; 2^30 + 1; a half. 2^30 itself is good
@@ -78,5 +82,5 @@ offValues =
     ∷ isSupposed (both 20 (num 1) 0x3fe0_0000_0000_0000 ∷ both 30 (num 1) (num 2) ∷ []) ∷ isSupposed (both 20 (num 1) (num 1_073_741_824) ∷ both 30 (num 1) (num 2) ∷ []) ∷ []
 
 pub off-values : offValues ≡ false ∷ false ∷ false ∷ true ∷ []
-unfolding Instance-defs isSupposed offValues
+unfolding Instance-defs isSupposedAt isSupposed offValues
 off-values = refl
