@@ -20,8 +20,8 @@ use Rattle.laws.specs.Tests.{yes-lt, no-lt}
 use Rattle.laws.specs.Bytes.{get-part}
 use Rattle.rings.specs.Sound.{Sound, header-in}
 use Rattle.frame.specs.Good.{Good, good-open, inside-slice, length-slab, slab-sound, tier-of}
-use Rattle.frame.specs.Tiers.{TierRow, tier-row, some-tier}
 use Rattle.lent.specs.Parts.{SlabAt, finestOf}
+use Rattle.lent.specs.Handle.{series-there}
 use Rattle.lent.specs.declared.Finest.the-variants.{At, Missing}
 
 module _ (s : List ℕ) (h : openCheck s ≡ 0) where
@@ -74,13 +74,7 @@ module _ (s : List ℕ) (h : openCheck s ≡ 0) where
           sound = rw (es, em, ed) a;
         }
 
-  -- ---- the first row of a schema
-
-  pub first-there : (k : ℕ) → k < schemas s → firstRow k (rows s) < rowCount s
-  first-there k l = rw add-zero at (tier-row s (g .shape-is) k 0 (some-tier s (g .shape-is) (g .layout-is) k l) .there)
-
-  pub series-there : (k : ℕ) → k < schemas s → seriesOf (tiersOf k (rows s)) ≡ rowAt s (firstRow k (rows s)) .series
-  series-there k l = rw add-zero at (tier-row s (g .shape-is) k 0 (some-tier s (g .shape-is) (g .layout-is) k l) .series-is)
+-- ---- the first row of a schema
 
 -- row i of c: the search goes on, or ends
 pub first-on : (s : List ℕ) (k i c : ℕ) → i < c → eqb (get 4 s (rowPlace i + 0)) k ≡ false → i + firstRow k (rowsFrom s i (c - i)) ≡ i + 1 + firstRow k (rowsFrom s (i + 1) (c - (i + 1)))

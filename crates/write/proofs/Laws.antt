@@ -1,5 +1,5 @@
 -- What the writers' proofs rest on: a store behind the header keeps a slab in good order; a write is its stamp, its cells and its cursor, stored in this
--- order; one turn of the loop over a batch. Assumes nothing.
+-- order; one value more. Assumes nothing.
 use Prim.Native.Nat.{ℕ, zero, suc, _+_, _-_, _*_, _/_, _%_, _≤_, _<_}
 use native.Mathlib.Omega.{arith}
 use native.Mathlib.Numerals.{add-one}
@@ -10,7 +10,6 @@ use lib.Dec.{ltb, eqb}
 use lib.ListN.{length}
 use Rattle.model.specs.Bytes.{get, put}
 use Rattle.model.specs.Ring.{Ring, ColumnValue, cursor, stampAt, slotOf, putCells, write}
-use Rattle.model.specs.Record.{entryAt, entriesFrom, entriesOf, keepEntry}
 use Rattle.laws.specs.Bytes.{before, get-put, length-put}
 use Rattle.laws.specs.Slab.{cursor-put}
 use Rattle.rings.specs.Write.{write-is, flag-is}
@@ -30,28 +29,6 @@ written {s} {n} {m} {d} h w es t i {u} {f} p q r =
     let us : u ≡ write (ringOf s w) es t .slab = q ∙ rw (e, write-is (ringOf s w) es t) in
     let fs : f ≡ write (ringOf s w) es t .wrapped = r ∙ rw (e, flag-is (ringOf s w) es t) in
     (rw (us, fs), rw us (sound-write (ringOf s w) es t n m d h))
-
--- entry i of c
-entries-turn : (k i c : ℕ) (b : List ℕ) → i < c → entriesOf k (entriesFrom b i (c - i)) ≡ keepEntry (eqb (get 4 b (16 * i)) k) (entryAt b i) (entriesOf k (entriesFrom b (i + 1) (c - (i + 1))))
-unfolding entriesOf entriesFrom entryAt
-entries-turn k i c b h =
-    let e : c - i ≡ suc (c - (i + 1)) = omega arith in
-    rw (e, add-one i)
-
-module _ (k i c : ℕ) (b : List ℕ) (h : i < c) where
-  pub skip-entry : eqb (get 4 b (16 * i)) k ≡ false → entriesOf k (entriesFrom b i (c - i)) ≡ entriesOf k (entriesFrom b (i + 1) (c - (i + 1)))
-  unfolding keepEntry
-  skip-entry e = entries-turn k i c b h ∙ rw e
-
-  pub keep-entry : eqb (get 4 b (16 * i)) k ≡ true
-      → entriesOf k (entriesFrom b i (c - i)) ≡ record { column = get 4 b (16 * i + 4); value = get 8 b (16 * i + 8) } ∷ entriesOf k (entriesFrom b (i + 1) (c - (i + 1)))
-  unfolding keepEntry entryAt
-  keep-entry e = entries-turn k i c b h ∙ rw e
-
--- past the last entry
-pub no-entry : (k i c : ℕ) (b : List ℕ) → c ≤ i → entriesOf k (entriesFrom b i (c - i)) ≡ []
-unfolding entriesOf entriesFrom
-no-entry k i c b h = let e : c - i ≡ 0 = omega arith in rw e
 
 -- the first value stored, then the others
 pub cell-turn : (s : List ℕ) {u t : List ℕ} (i c v : ℕ) (es : List ColumnValue) → u ≡ putCells s i (one c v) → putCells s i (record { column = c; value = v } ∷ es) ≡ t → putCells u i es ≡ t

@@ -6,7 +6,8 @@ use mathlib.Core.Path.{_≡_, sym, _∙_, subst}
 use borrow.Author.Tests.{eq-eqb, ne-eqb}
 use Rattle.model.specs.Image.{rowCount, rowsFrom, rows}
 use Rattle.model.specs.Lent.{firstRow}
-use Rattle.lent.proofs.Laws.{header-in-slice, first-there, first-on, first-here, first-past}
+use Rattle.lent.specs.Handle.{first-there}
+use Rattle.lent.proofs.Laws.{header-in-slice, first-on, first-here, first-past}
 use borrow.Author.Needs.{needs}
 use Rattle.lent.proofs.first_row.Statement.{statement}
 use Rattle.lent.proofs.first_row.Tie as tie

@@ -12,7 +12,8 @@ use Rattle.model.specs.Record.{entries, entriesFrom, entriesOf}
 use Rattle.rings.specs.Sound.{Sound}
 use Rattle.ring.specs.Parts.{sized, one}
 use Rattle.write.specs.Stored.{Columns}
-use Rattle.write.proofs.Laws.{skip-entry, keep-entry, no-entry, cell-turn}
+use Rattle.write.specs.Entries.{skip-entry, keep-entry, no-entry}
+use Rattle.write.proofs.Laws.{cell-turn}
 use borrow.Author.Needs.{needs}
 use Rattle.write.proofs.write_cells.Statement.{statement}
 use Rattle.write.proofs.write_cells.Tie as tie
@@ -46,7 +47,7 @@ loop-less c = search needs
 
 loop-again : tie.Need-loop-again Inv-loop μ-loop
 loop-again c =
-    let e = skip-entry (c .before .before .before .before .before .before .args .schema) (c .before .before .before .loop .i) (length (c .before .before .before .before .before .before .args .batch .now) / 16) (c .before .before .before .before .before .before .args .batch .now) (c .before .before .loop-test .taken) (ne-eqb _ _ (λ z. c .if1 .taken (c .before .get-u32 .ensures .0 ∙ z))) in
+    let e = skip-entry (c .before .before .before .before .before .before .args .batch .now) (c .before .before .before .loop .i) (length (c .before .before .before .before .before .before .args .batch .now) / 16) (c .before .before .before .before .before .before .args .schema) (c .before .before .loop-test .taken) (ne-eqb _ _ (λ z. c .if1 .taken (c .before .get-u32 .ensures .0 ∙ z))) in
     (omega arith, c .before .before .before .loop .inv .1, c .before .before .before .loop .inv .2, rw e at (c .before .before .before .loop .inv .3), rw e at (c .before .before .before .loop .inv .4))
 
 mul-get-u32-2 : tie.Need-mul-get-u32-2 Inv-loop μ-loop
@@ -69,7 +70,7 @@ get-u64-requires c κs = search needs
 
 write-cell-requires : tie.Need-write-cell-requires Inv-loop μ-loop
 write-cell-requires c κs =
-    let e = keep-entry (c .before .before .before .before .before .before .before .before .before .args .schema) (c .before .before .before .before .before .before .loop .i) (length (c .before .before .before .before .before .before .before .before .before .args .batch .now) / 16) (c .before .before .before .before .before .before .before .before .before .args .batch .now) (c .before .before .before .before .before .loop-test .taken) (eq-eqb _ _ (sym (c .before .before .before .before .get-u32 .ensures .0) ∙ c .before .before .before .if1 .left)) in
+    let e = keep-entry (c .before .before .before .before .before .before .before .before .before .args .batch .now) (c .before .before .before .before .before .before .loop .i) (length (c .before .before .before .before .before .before .before .before .before .args .batch .now) / 16) (c .before .before .before .before .before .before .before .before .before .args .schema) (c .before .before .before .before .before .loop-test .taken) (eq-eqb _ _ (sym (c .before .before .before .before .get-u32 .ensures .0) ∙ c .before .before .before .if1 .left)) in
     (sized (c .before .before .before .before .before .before .loop .inv .2), (search needs, omega (arith, (rw e at (c .before .before .before .before .before .before .loop .inv .3)) .0)))
 
 add-i-2 : tie.Need-add-i-2 Inv-loop μ-loop
@@ -82,7 +83,7 @@ loop-again-2 : tie.Need-loop-again-2 Inv-loop μ-loop
 loop-again-2 c =
     let b = c .before .before .before .before .before .before .before .before .before .before .before .before .args .batch .now in
     let i = c .before .before .before .before .before .before .before .before .before .loop .i in
-    let e = keep-entry (c .before .before .before .before .before .before .before .before .before .before .before .before .args .schema) i (length b / 16) b (c .before .before .before .before .before .before .before .before .loop-test .taken) (eq-eqb _ _ (sym (c .before .before .before .before .before .before .before .get-u32 .ensures .0) ∙ c .before .before .before .before .before .before .if1 .left)) in
+    let e = keep-entry b i (length b / 16) (c .before .before .before .before .before .before .before .before .before .before .before .before .args .schema) (c .before .before .before .before .before .before .before .before .loop-test .taken) (eq-eqb _ _ (sym (c .before .before .before .before .before .before .before .get-u32 .ensures .0) ∙ c .before .before .before .before .before .before .if1 .left)) in
     let p : c .before .before .write-cell .last .0 ≡ putCells (c .before .before .before .before .before .before .before .before .before .loop .slab) (c .before .before .before .before .before .before .before .before .before .before .before .before .args .slot) (one (get 4 b (16 * i + 4)) (get 8 b (16 * i + 8))) = cc in (
       omega arith,
       search needs,
@@ -96,7 +97,7 @@ same-length c = search needs
 
 returns : tie.Need-returns Inv-loop μ-loop
 unfolding putCells
-returns c = rw (no-entry (c .before .before .before .before .args .schema) (c .before .loop .i) (length (c .before .before .before .before .args .batch .now) / 16) (c .before .before .before .before .args .batch .now) (c .loop-test .left)) at (c .before .loop .inv .4)
+returns c = rw (no-entry (c .before .before .before .before .args .batch .now) (c .before .loop .i) (length (c .before .before .before .before .args .batch .now) / 16) (c .before .before .before .before .args .schema) (c .loop-test .left)) at (c .before .loop .inv .4)
 
 pub write-cells-spec : {M : Type 1} → statement M
 write-cells-spec =

@@ -1,0 +1,47 @@
+// The wrap flags as one number, as they cross the edge to C: bit i is row i's flag. Every number stands for some flags, so a caller can lend any.
+ghost use mathlib.Core.Path.{_≡_};
+ghost use Prim.Native.Nat.{_≤_};
+ghost use Rattle.bits.specs.Bits.{bits, bitOf, number};
+
+// The flags of a number: row i's is its bit i.
+pub fn flags_of(number: u32) -> model::Flags
+    ensures { λ r. ⌜ r .wrapped ≡ bits 32 number ⌝ }
+{
+    let mut wrapped = [false; 32];
+    let mut rest = number;
+    let mut i = 0;
+    while i < 32 {
+        wrapped[i] = rest % 2 == 1;
+        rest = rest / 2;
+        i += 1;
+    }
+    model::Flags { wrapped: wrapped }
+}
+
+// A flag as a bit.
+fn bit_of(flag: bool) -> u32
+    ensures { λ r. ⌜ (r ≡ bitOf flag) × (r ≤ 1) ⌝ }
+{
+    if flag { 1 } else { 0 }
+}
+
+// The number of these flags, from the last to the first.
+fn number_in(wrapped: [bool; 32]) -> u32
+    ensures { λ r. ⌜ (r ≡ number wrapped) × (bits 32 r ≡ wrapped) ⌝ }
+{
+    let mut x = 0;
+    let mut i = 32;
+    while 0 < i {
+        i -= 1;
+        x = bit_of(wrapped[i]) + 2 * x;
+    }
+    x
+}
+
+// The number of these flags: `flags_of` gives them back.
+pub fn number_of(flags: model::Flags) -> u32
+    ensures { λ r. ⌜ (r ≡ number (flags .wrapped)) × (bits 32 r ≡ flags .wrapped) ⌝ }
+{
+    let wrapped = flags.wrapped;
+    number_in(wrapped)
+}

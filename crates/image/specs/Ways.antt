@@ -1,0 +1,106 @@
+-- The ways through the checks of an image and of a plan: where each stops, and where it goes on. Assumes nothing.
+use Prim.Native.Nat.{ℕ, zero, suc, _+_, _*_, _-_, _≤_, _<_}
+use native.Mathlib.Nat.{sub-zero, zero-add}
+use native.Mathlib.Omega.{arith}
+use mathlib.Core.Path.{_≡_, refl, sym, ap, _∙_}
+use mathlib.Core.Bool.{Bool, true, false, _&&_}
+use mathlib.Core.List.{List, [], _∷_}
+use lib.ListN.{length}
+use lib.Dec.{eqb, leb}
+use borrow.Author.Tests.{le-leb, lt-leb, leb-true}
+use Rattle.model.specs.declared.Row.{Row}
+use Rattle.model.specs.Bytes.{get}
+use Rattle.model.specs.Image.{first, unless, shape, blank, schemas, rowCount, rows, rowsFrom, rowAt, rowPlace, rowLength, totalLength, imageLength, slabsEnd, placed, slabOf, sound, soundAll, schemaChecks, layoutCheck, planCheck, openCheck}
+use Rattle.frame.specs.Checks.{first-zero, unless-zero, Shape, shape-parts}
+use Rattle.frame.specs.Rows.{Place, placed-at, slabsEnd-suc, slabsEnd-le}
+use Rattle.rows.specs.Tests.{and-assoc, and-true}
+use Rattle.rows.specs.First.{first-stop, first-on, first-one, unless-on, unless-stop}
+use Rattle.rows.specs.Rows.{rowsTo, rows-all, rows-step, rows-end}
+use Rattle.layout.specs.Ends.{long}
+
+module _ (s : List ℕ) where
+  pub length-is : imageLength s ≡ slabsEnd (32 + 64 * rowCount s) (rowsTo s (rowCount s) 0)
+  unfolding imageLength rowPlace
+  length-is = rw (rows-all s)
+
+  -- ---- 2 to 8
+
+  abbrev R : List Row
+  R = rowsTo s (rowCount s) 0
+
+  pub layout-schemas : {x : ℕ} → x ≡ schemaChecks 0 (schemas s) R → (x ≡ 0 → ⊥) → x ≡ layoutCheck s
+  unfolding layoutCheck
+  layout-schemas e f = rw (← rows-all s) (e ∙ sym (first-stop (schemaChecks 0 (schemas s) R) _ (λ z. f (e ∙ z))))
+
+  module _ (e : schemaChecks 0 (schemas s) R ≡ 0) where
+    past-schemas : layoutCheck s ≡ unless (leb (imageLength s) 1099511627776) 8
+    unfolding layoutCheck
+    past-schemas = rw (← rows-all s) (first-on _ e ∙ first-one _)
+
+    pub layout-8 : 1099511627776 < imageLength s → 8 ≡ layoutCheck s
+    layout-8 h = sym (past-schemas ∙ unless-stop 8 (lt-leb _ _ h))
+
+    pub layout-0 : imageLength s ≤ 1099511627776 → 0 ≡ layoutCheck s
+    layout-0 h = sym (past-schemas ∙ unless-on 8 (le-leb _ _ h))
+
+  pub layout-fits : layoutCheck s ≡ 0 → imageLength s ≤ 1099511627776
+  unfolding layoutCheck
+  layout-fits e =
+      let a = first-zero (schemaChecks 0 (schemas s) (rows s)) (unless (leb (imageLength s) 1099511627776) 8 ∷ []) e in
+      leb-true _ _ (unless-zero (leb (imageLength s) 1099511627776) 7 (first-zero _ [] (a .1) .0))
+
+  -- ---- a plan
+
+  pub plan-shape : shape s ≡ false → 1 ≡ planCheck s
+  unfolding planCheck first unless
+  plan-shape e = rw e
+
+  pub plan-blank : shape s ≡ true → blank s ≡ false → 1 ≡ planCheck s
+  unfolding planCheck first unless
+  plan-blank e f = rw (e, f)
+
+  pub plan-layout : shape s ≡ true → blank s ≡ true → layoutCheck s ≡ planCheck s
+  unfolding planCheck unless
+  plan-layout e f = rw (e, f) (sym (first-on _ refl ∙ first-one (layoutCheck s)))
+
+  -- ---- an image
+
+  -- total length, offsets, slab lengths and the slice's length
+  abbrev pub right : Bool
+  right = eqb (totalLength s) (imageLength s) && placed (32 + 64 * rowCount s) R && leb (imageLength s) (length s)
+
+  -- the same by what code reads and works out
+  pub right-is : {n t l : ℕ} {p : Bool} → n ≡ get 4 s 12 → t ≡ get 8 s 16 → l ≡ imageLength s → p ≡ placed (32 + 64 * n) (rowsTo s n 0)
+      → right ≡ eqb t l && p && leb l (length s)
+  unfolding totalLength rowCount
+  right-is a b c d = rw (d, a, b, c)
+
+  pub ends-are : {n : ℕ} → n ≡ get 4 s 12 → slabsEnd (32 + 64 * n) (rowsTo s n 0) ≡ imageLength s
+  unfolding rowCount
+  ends-are a = rw a (sym length-is)
+
+  pub open-shape : shape s ≡ false → 1 ≡ openCheck s
+  unfolding openCheck first unless
+  open-shape e = rw e
+
+  module _ (e : shape s ≡ true) where
+    pub open-layout : {x : ℕ} → x ≡ layoutCheck s → (x ≡ 0 → ⊥) → x ≡ openCheck s
+    unfolding openCheck unless
+    open-layout f g = rw e (f ∙ sym (first-on _ refl ∙ first-stop (layoutCheck s) _ (λ z. g (f ∙ z))))
+
+    module _ (f : layoutCheck s ≡ 0) where
+      past-layout : openCheck s ≡ first (unless right 1 ∷ unless (soundAll s R) 10 ∷ [])
+      unfolding openCheck unless rowPlace
+      past-layout = rw (e, ← rows-all s) (first-on _ refl ∙ first-on _ f)
+
+      pub open-places : right ≡ false → 1 ≡ openCheck s
+      unfolding first unless
+      open-places g = sym (past-layout ∙ rw g)
+
+      pub open-slabs : right ≡ true → soundAll s R ≡ false → 10 ≡ openCheck s
+      unfolding first unless
+      open-slabs g h = sym (past-layout ∙ rw (g, h))
+
+      pub open-all : right ≡ true → soundAll s R ≡ true → 0 ≡ openCheck s
+      unfolding first unless
+      open-all g h = sym (past-layout ∙ rw (g, h))

@@ -1,0 +1,42 @@
+-- `layout::slab_length` meets its contract: n (m + 1) words pass 2^37 exactly when n passes 2^37 / (m + 1), and then 2^40 bytes are passed. Assumes nothing.
+use Prim.Native.Nat.{_+_}
+use native.Mathlib.Omega.{arith}
+use Rattle.layout.proofs.Laws.{lists, over, within}
+use borrow.Author.Needs.{needs}
+use Rattle.layout.proofs.slab_length.Statement.{statement}
+use Rattle.layout.proofs.slab_length.Tie as tie
+
+add-lists : tie.Need-add-lists
+add-lists c = search needs
+
+div-if1 : tie.Need-div-if1
+div-if1 c = search needs
+
+returns : tie.Need-returns
+returns c = let a = c .before .args in omega (arith, lists (a .n) (a .m), over (a .n) (a .m + 1) (omega arith) (c .if1 .taken))
+
+mul-l : tie.Need-mul-l
+mul-l c = search needs
+
+add-l : tie.Need-add-l
+add-l c = search needs
+
+mul-l-2 : tie.Need-mul-l-2
+mul-l-2 c = let a = c .before .args in omega (arith, within (a .n) (a .m + 1) (omega arith) (c .if1 .left))
+
+mul-l-3 : tie.Need-mul-l-3
+mul-l-3 c = let a = c .before .args in omega (arith, within (a .n) (a .m + 1) (omega arith) (c .if1 .left))
+
+add-l-2 : tie.Need-add-l-2
+add-l-2 c = let a = c .before .args in omega (arith, within (a .n) (a .m + 1) (omega arith) (c .if1 .left))
+
+returns-2 : tie.Need-returns-2
+returns-2 c = let a = c .before .before .args in omega (arith, lists (a .n) (a .m))
+
+returns-3 : tie.Need-returns-3
+returns-3 c = let a = c .before .before .args in omega (arith, lists (a .n) (a .m))
+
+pub slab-length-spec : {M : Type 1} → statement M
+slab-length-spec =
+    tie.close
+    (tie.spec add-lists div-if1 returns mul-l add-l mul-l-2 mul-l-3 add-l-2 returns-2 returns-3)

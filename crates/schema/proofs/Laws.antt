@@ -1,0 +1,152 @@
+-- A schema's tiers one by one, and its checks in their order. Assumes nothing.
+use Prim.Native.Nat.{ℕ, zero, suc, _+_, _-_, _^_, _≤_, _<_}
+use native.Mathlib.Numerals.{add-one}
+use native.Mathlib.Nat.{sub-zero}
+use native.Mathlib.Omega.{arith}
+use mathlib.Core.Path.{_≡_, refl, sym, ap, _∙_}
+use mathlib.Core.Bool.{Bool, true, false, _&&_}
+use mathlib.Core.List.{List, [], _∷_}
+use lib.Dec.{eqb, leb, ltb}
+use borrow.Author.Tests.{eq-eqb, ne-eqb, lt-ltb, le-ltb, le-leb, lt-leb}
+use Rattle.model.specs.declared.Row.{Row}
+use Rattle.model.specs.declared.Refusal.{Refusal}
+use Rattle.model.specs.declared.Outcome.{Outcome}
+use Rattle.model.specs.declared.Outcome.the-variants as O
+use Rattle.model.specs.Words.{numberOf, outcomeNo}
+use Rattle.model.specs.Image.{first, unless, rowAt, rowSlots, tiersOf, keepRow, tierCheck, tierChecks, rising, schemaCheck, schemaChecks}
+use Rattle.rows.specs.Tests.{and-assoc, and-true}
+use Rattle.rows.specs.First.{first-stop, first-on, first-one, refusal-no}
+use Rattle.rows.specs.Rows.{rowsTo, rows-step, rows-end}
+use Rattle.schema.specs.declared.First.{First}
+use Rattle.schema.specs.declared.First.the-variants.{At, Missing}
+use Rattle.schema.specs.Tiers.{tiersAt, reach}
+
+-- an answer that is a refusal has not the number 0
+pub not-accepted : {o : Outcome} {w : Refusal} → o ≡ O.Refused w → outcomeNo o ≡ 0 → ⊥
+not-accepted {w = w} e z = refusal-no w (ap outcomeNo (sym e) ∙ z)
+
+pub accepted : {o : Outcome} → o ≡ O.Accepted → outcomeNo o ≡ 0
+accepted e = ap outcomeNo e
+
+-- ---- the rows of schema j
+
+module _ (s : List ℕ) (n i j : ℕ) (h : i < n) where
+  pub tiers-take : rowAt s i .schema ≡ j → tiersOf j (rowsTo s n i) ≡ rowAt s i ∷ tiersOf j (rowsTo s n (i + 1))
+  unfolding tiersOf keepRow
+  tiers-take e = rw (rows-step s n i h, eq-eqb _ _ e)
+
+  pub tiers-skip : (rowAt s i .schema ≡ j → ⊥) → tiersOf j (rowsTo s n (i + 1)) ≡ tiersOf j (rowsTo s n i)
+  unfolding tiersOf keepRow
+  tiers-skip e = sym (rw (rows-step s n i h, ne-eqb _ _ e))
+
+pub tiers-end : (s : List ℕ) (n i j : ℕ) → n ≤ i → tiersOf j (rowsTo s n i) ≡ []
+unfolding tiersOf
+tiers-end s n i j h = rw (rows-end s n i h)
+
+-- ---- 4, then 5
+
+-- the test that 4 refuses by
+abbrev pub spans : Row → Bool
+spans r = ltb 0 (r .interval) && ltb (r .interval) (2 ^ 63) && ltb 0 (r .retention) && ltb (r .retention) (2 ^ 63) && leb (r .interval) (r .retention)
+
+module _ (r : Row) where
+  pub tier-4 : spans r ≡ false → tierCheck r ≡ 4
+  unfolding tierCheck first unless
+  tier-4 e = rw e
+
+  pub tier-5 : spans r ≡ true → 1000000000 < rowSlots r → tierCheck r ≡ 5
+  unfolding tierCheck first unless
+  tier-5 e h = rw (e, lt-leb _ _ h)
+
+  pub tier-0 : spans r ≡ true → rowSlots r ≤ 1000000000 → tierCheck r ≡ 0
+  unfolding tierCheck first unless
+  tier-0 e h = rw (e, le-leb _ _ h)
+
+module _ (s : List ℕ) (n i j : ℕ) (h : i < n) (e : rowAt s i .schema ≡ j) where
+  pub tiers-stop : {x : ℕ} → x ≡ tierCheck (rowAt s i) → (x ≡ 0 → ⊥) → x ≡ tierChecks (tiersOf j (rowsTo s n i))
+  unfolding tierChecks
+  tiers-stop f z = rw (tiers-take s n i j h e) (f ∙ sym (first-stop (tierCheck (rowAt s i)) _ (λ y. z (f ∙ y))))
+
+  pub tiers-on : tierCheck (rowAt s i) ≡ 0 → tierChecks (tiersOf j (rowsTo s n (i + 1))) ≡ tierChecks (tiersOf j (rowsTo s n i))
+  unfolding tierChecks
+  tiers-on f = rw (tiers-take s n i j h e) (sym (first-on _ f ∙ first-one _))
+
+  -- ---- 6
+
+  pub rising-on : (good : Bool) (p : Row) {x : ℕ} → x ≡ rowAt s i .interval
+      → (good && ltb (p .interval) x) && rising (rowAt s i) (tiersOf j (rowsTo s n (i + 1))) ≡ good && rising p (tiersOf j (rowsTo s n i))
+  unfolding rising
+  rising-on good p f = rw (tiers-take s n i j h e, f) (and-assoc good _ _)
+
+pub checks-end : (s : List ℕ) (n i j : ℕ) → n ≤ i → tierChecks (tiersOf j (rowsTo s n i)) ≡ 0
+unfolding tierChecks
+checks-end s n i j h = rw (tiers-end s n i j h)
+
+pub rising-end : (s : List ℕ) (n i j : ℕ) (good : Bool) (p : Row) → n ≤ i → good && rising p (tiersOf j (rowsTo s n i)) ≡ good
+unfolding rising
+rising-end s n i j good p h = rw (tiers-end s n i j h) (and-true good)
+
+-- ---- one schema, by where its first tier stands
+
+module _ (s : List ℕ) (n j : ℕ) {f : First} (e : tiersOf j (rowsTo s n 0) ≡ tiersAt s n j f) where
+  pub schema-2 : f ≡ Missing → 2 ≡ schemaCheck (tiersOf j (rowsTo s n 0))
+  unfolding schemaCheck
+  schema-2 m = let z : tiersOf j (rowsTo s n 0) ≡ [] = e ∙ ap (tiersAt s n j) m in rw z
+
+  module _ {i : ℕ} (m : f ≡ At i) where
+    abbrev r : Row
+    r = rowAt s i
+
+    abbrev rest : List Row
+    rest = tiersOf j (rowsTo s n (i + 1))
+
+    tiers-are : tiersOf j (rowsTo s n 0) ≡ r ∷ rest
+    tiers-are = e ∙ ap (tiersAt s n j) m
+
+    pub schema-3 : r .series ≡ 0 → 3 ≡ schemaCheck (tiersOf j (rowsTo s n 0))
+    unfolding schemaCheck first unless
+    schema-3 z = rw (tiers-are, z)
+
+    module _ (a : r .series ≡ 0 → ⊥) where
+      past-3 : schemaCheck (tiersOf j (rowsTo s n 0)) ≡ first (tierChecks (r ∷ rest) ∷ unless (rising r rest) 6 ∷ unless (eqb (r .function) 0) 7 ∷ [])
+      unfolding schemaCheck first unless
+      past-3 = let z : ltb 0 (r .series) ≡ true = lt-ltb 0 (r .series) (omega arith) in rw (tiers-are, z)
+
+      pub schema-tiers : {x : ℕ} → x ≡ tierChecks (tiersOf j (rowsTo s n 0)) → (x ≡ 0 → ⊥) → x ≡ schemaCheck (tiersOf j (rowsTo s n 0))
+      schema-tiers q z = let p = q ∙ ap tierChecks tiers-are in p ∙ sym (past-3 ∙ first-stop (tierChecks (r ∷ rest)) _ (λ y. z (p ∙ y)))
+
+      module _ (b : tierChecks (tiersOf j (rowsTo s n 0)) ≡ 0) where
+        past-tiers : schemaCheck (tiersOf j (rowsTo s n 0)) ≡ first (unless (rising r rest) 6 ∷ unless (eqb (r .function) 0) 7 ∷ [])
+        past-tiers = past-3 ∙ first-on _ (ap tierChecks (sym tiers-are) ∙ b)
+
+        pub schema-6 : rising r rest ≡ false → 6 ≡ schemaCheck (tiersOf j (rowsTo s n 0))
+        unfolding first unless
+        schema-6 z = sym (past-tiers ∙ rw z)
+
+        pub schema-7 : rising r rest ≡ true → (r .function ≡ 0 → ⊥) → 7 ≡ schemaCheck (tiersOf j (rowsTo s n 0))
+        unfolding first unless
+        schema-7 z y = sym (past-tiers ∙ rw (z, ne-eqb _ _ y))
+
+        pub schema-0 : rising r rest ≡ true → r .function ≡ 0 → 0 ≡ schemaCheck (tiersOf j (rowsTo s n 0))
+        unfolding first unless
+        schema-0 z y = sym (past-tiers ∙ rw (z, eq-eqb _ _ y))
+
+-- ---- the schemas
+
+module _ (j k : ℕ) (rs : List Row) (h : j < k) where
+  one : schemaChecks j (k - j) rs ≡ first (schemaCheck (tiersOf j rs) ∷ schemaChecks (suc j) (k - (j + 1)) rs ∷ [])
+  unfolding schemaChecks
+  one = let e : k - j ≡ suc (k - (j + 1)) = omega arith in rw e
+
+  pub schemas-stop : {x : ℕ} → x ≡ schemaCheck (tiersOf j rs) → (x ≡ 0 → ⊥) → x ≡ schemaChecks j (k - j) rs
+  schemas-stop e z = e ∙ sym (one ∙ first-stop (schemaCheck (tiersOf j rs)) _ (λ y. z (e ∙ y)))
+
+  pub schemas-on : schemaCheck (tiersOf j rs) ≡ 0 → schemaChecks (j + 1) (k - (j + 1)) rs ≡ schemaChecks j (k - j) rs
+  schemas-on e = sym (one ∙ first-on _ e ∙ first-one _ ∙ rw add-one)
+
+pub schemas-end : (j k : ℕ) (rs : List Row) → k ≤ j → schemaChecks j (k - j) rs ≡ 0
+unfolding schemaChecks
+schemas-end j k rs h = let e : k - j ≡ 0 = omega arith in rw e
+
+pub schemas-all : (k : ℕ) (rs : List Row) → schemaChecks 0 (k - 0) rs ≡ schemaChecks 0 k rs
+schemas-all k rs = rw sub-zero
