@@ -1,0 +1,65 @@
+-- `batch::store_schema` meets its contract: the slab of the schema's first row is lent on, and what comes back is put in its place. Assumes nothing.
+use native.Mathlib.Nat.{add-zero}
+use mathlib.Core.Path.{_≡_, sym, ap, _∙_}
+use Rattle.model.specs.Lent.{rowNo}
+use Rattle.model.specs.Record.{entries, entriesOf, writeTo}
+use Rattle.record.proofs.Laws.{lent-sound, lent-write}
+use Rattle.batch.proofs.Laws.{columns-at}
+use borrow.Author.Needs.{needs}
+use Rattle.batch.proofs.store_schema.Statement.{statement}
+use Rattle.batch.proofs.store_schema.Tie as tie
+
+first-row-requires : tie.Need-first-row-requires
+first-row-requires c κs = search needs
+
+slab-at-requires : tie.Need-slab-at-requires
+slab-at-requires c κs = search needs
+
+flag-requires : tie.Need-flag-requires
+flag-requires c κs = search needs
+
+sub-write-batch : tie.Need-sub-write-batch
+sub-write-batch c = search needs
+
+part-write-batch-start : tie.Need-part-write-batch-start
+part-write-batch-start c = search needs
+
+part-write-batch-end : tie.Need-part-write-batch-end
+part-write-batch-end c = search needs
+
+write-batch-requires : tie.Need-write-batch-requires
+write-batch-requires c κs = (
+  lent-sound (c .before .before .slab-at .ensures),
+  (
+    c .before .before .slab-at .ensures .some-interval,
+    columns-at (c .before .before .before .before .before .before .before .before .args .image .now) (c .before .before .before .before .before .before .before .before .args .schema) (entries (c .before .before .before .before .before .before .before .before .args .batch .now)) (c .before .before .before .before .before .before .before .before .pre .0) (c .before .before .before .before .before .before .before .before .pre .1 .0) (c .before .before .before .before .before .before .before .before .pre .1 .1) (c .before .before .before .before .first-row .ensures .0) (c .before .before .slab-at .ensures .series-is),
+  ),
+)
+
+with-flag-requires : tie.Need-with-flag-requires
+with-flag-requires c κs = search needs
+
+same-length : tie.Need-same-length
+same-length c = search needs
+
+returns : tie.Need-returns
+unfolding writeTo rowNo
+returns c =
+    let es = entriesOf (c .before .before .before .before .before .before .before .before .before .before .before .before .args .schema) (entries (c .before .before .before .before .before .before .before .before .before .before .before .before .args .batch .now)) in
+    let e = lent-write (c .before .before .before .before .before .before .slab-at .ensures) (c .before .before .before .before .before .before .before .before .before .before .before .before .args .flags) es (c .before .before .before .before .before .before .before .before .before .before .before .before .args .stamp) (c .before .before .before .before .before .flag .ensures) (search needs) (c .before .before .before .write-batch .ensures .0) (c .with-flag .ensures) in
+    e ∙ rw (add-zero, c .before .before .before .before .before .before .before .before .first-row .ensures .0)
+
+pub store-schema-spec : {M : Type 1} → statement M
+store-schema-spec =
+    tie.close
+    (tie.spec
+    first-row-requires
+    slab-at-requires
+    flag-requires
+    sub-write-batch
+    part-write-batch-start
+    part-write-batch-end
+    write-batch-requires
+    with-flag-requires
+    same-length
+    returns)

@@ -1,0 +1,11 @@
+-- The one outcome of `record_batch`: its answer's number and what it leaves lent are the definition's, refusals included. Assumes nothing.
+use Prim.Native.Nat.{ℕ}
+use mathlib.Core.Path.{_≡_}
+use mathlib.Core.List.{List}
+use Rattle.model.specs.Lent.{Lent}
+use Rattle.model.specs.Record.{Entry, batchCheck, batchOn}
+
+-- of the entries es at stamp t, recorded on l: the answer's number, and what is lent then
+pub record BatchDone (l : Lent) (es : List Entry) (t number : ℕ) (after : Lent) : Type 0 where
+  pub answer-is : number ≡ batchCheck l es t
+  pub lent-is : after ≡ batchOn (batchCheck l es t) l es t

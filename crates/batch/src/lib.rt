@@ -1,0 +1,124 @@
+// `record_batch` by value: opening's order on every call, then 11 for any entry, 13, 12, then one write to the finest ring of each schema that has entries
+// (Rust's `Store::record_batch`). A refused batch stores nothing; an empty one is accepted at any stamp and changes nothing.
+ghost use mathlib.Core.Path.{_≡_};
+ghost use mathlib.Core.Bool.{true};
+ghost use Prim.Native.Nat.{_<_};
+ghost use Rattle.model.specs.Words.{outcomeNo};
+ghost use Rattle.model.specs.Image.{schemas, openCheck};
+ghost use Rattle.model.specs.Lent.{Lent};
+ghost use Rattle.model.specs.Record.{entries, entriesOf, everyEntry, writeTo, writeSchemas};
+ghost use Rattle.lent.specs.Parts.{lentOf};
+ghost use Rattle.entries.specs.Entries.{fits};
+ghost use Rattle.batch.specs.Done.{BatchDone};
+
+// Writes a schema's entries to its finest ring. Answers the flags.
+fn store_schema(
+    image: &mut [u8],
+    flags: model::Flags,
+    schema: u64,
+    batch: &[u8],
+    stamp: u64,
+) -> model::Flags
+    requires { ⌜ openCheck (now image) ≡ 0 ⌝ }
+    requires { ⌜ (schema < schemas (now image)) × (everyEntry (fits (now image)) (entries (now batch)) ≡ true) ⌝ }
+    ensures { λ r. ⌜ lentOf (now (image .exit)) r ≡ writeTo (lentOf (now (image .entry)) flags) schema (entriesOf schema (entries (now (batch .entry)))) stamp ⌝ }
+{
+    let row = lent::first_row(image, schema);
+    let slab = lent::slab_at(image, row);
+    let from = slab.from;
+    let to = slab.to;
+    let n = slab.slots;
+    let m = slab.series;
+    let interval = slab.interval;
+    let wrapped = lent::flag(flags, row);
+    let after = write::write_batch(
+        &mut image[from..to],
+        n,
+        m,
+        interval,
+        batch,
+        schema,
+        stamp,
+        wrapped,
+    );
+    lent::with_flag(flags, row, after)
+}
+
+// Writes every schema's entries, schema by schema. Answers the flags.
+fn store_schemas(image: &mut [u8], flags: model::Flags, batch: &[u8], stamp: u64) -> model::Flags
+    requires { ⌜ openCheck (now image) ≡ 0 ⌝ }
+    requires { ⌜ everyEntry (fits (now image)) (entries (now batch)) ≡ true ⌝ }
+    ensures { λ r. ⌜ lentOf (now (image .exit)) r ≡ writeSchemas (lentOf (now (image .entry)) flags) 0 (schemas (now (image .entry))) (entries (now (batch .entry))) stamp ⌝ }
+{
+    let count = field::get_u32(image, 8);
+    let mut next = flags;
+    let mut k = 0;
+    while k < count {
+        let some = entries::has_entry(batch, k);
+        if some {
+            next = store_schema(image, next, k, batch, stamp);
+            k += 1;
+            continue;
+        }
+        k += 1;
+    }
+    next
+}
+
+// Records a batch of one entry or more, once opening's check has passed: 11, 13, 12, or the writes.
+fn batch_opened(image: &mut [u8], flags: model::Flags, batch: &[u8], stamp: u64) -> record::Recorded
+    requires { ⌜ openCheck (now image) ≡ 0 ⌝ }
+    ensures { λ r. ⌜ BatchDone (lentOf (now (image .entry)) flags) (entries (now (batch .entry))) stamp (outcomeNo (r .outcome)) (lentOf (now (image .exit)) (r .flags)) ⌝ }
+{
+    if batch.len() < 16 {
+        return record::Recorded {
+            outcome: model::Outcome::Accepted,
+            flags: flags,
+        };
+    }
+    let handles = entries::handles_ok(image, batch);
+    if handles {
+        let in_time = record::stamp_ok(stamp);
+        if in_time {
+            let values = entries::values_ok(batch);
+            if values {
+                let next = store_schemas(image, flags, batch, stamp);
+                return record::Recorded {
+                    outcome: model::Outcome::Accepted,
+                    flags: next,
+                };
+            }
+            return record::Recorded {
+                outcome: model::Outcome::Refused(model::Refusal::InvalidValue),
+                flags: flags,
+            };
+        }
+        return record::Recorded {
+            outcome: model::Outcome::Refused(model::Refusal::InvalidTimestamp),
+            flags: flags,
+        };
+    }
+    record::Recorded {
+        outcome: model::Outcome::Refused(model::Refusal::InvalidHandle),
+        flags: flags,
+    }
+}
+
+// Records a batch.
+pub fn record_batch(
+    image: &mut [u8],
+    flags: model::Flags,
+    batch: &[u8],
+    stamp: u64,
+) -> record::Recorded
+    ensures { λ r. ⌜ BatchDone (lentOf (now (image .entry)) flags) (entries (now (batch .entry))) stamp (outcomeNo (r .outcome)) (lentOf (now (image .exit)) (r .flags)) ⌝ }
+{
+    let opened = image::check_image(image);
+    let model::Outcome::Accepted = opened else {
+        return record::Recorded {
+            outcome: opened,
+            flags: flags,
+        };
+    };
+    batch_opened(image, flags, batch, stamp)
+}

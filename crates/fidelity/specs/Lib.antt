@@ -1,0 +1,10 @@
+pub mod Values
+pub mod Exact
+pub mod Sums
+pub mod Plan
+pub mod Begin
+pub mod Setting
+pub mod Due
+pub mod Story
+pub mod Theorem
+pub mod Instance

@@ -1,0 +1,117 @@
+-- The tiers of a suited plan: each interval is a whole number of the finer one's, the coarsest a whole number of each, and every ring spans one coarsest
+-- interval. Assumes nothing.
+use Prim.Native.Nat.{ℕ, zero, suc, _+_, _-_, _*_, _/_, _≤_, _<_}
+use native.Mathlib.Nat.{mul-assoc, mul-pos, mul-div-cancel, mul-le-mul-right, le-of-mul-le-mul-right}
+use native.Mathlib.Omega.{arith}
+use mathlib.Core.Path.{_≡_, sym, ap, _∙_, subst}
+use mathlib.Core.List.{List, []}
+use Rattle.model.specs.Image.{schemas, rowCount, rowAt, rowSlots, layoutCheck}
+use Rattle.model.specs.Lent.{Lent}
+use Rattle.frame.specs.Checks.{Shape, tiers-ok}
+use Rattle.frame.specs.Tiers.{series-one}
+use Rattle.samples.specs.Lists.{multiple}
+use Rattle.samples.specs.Suited.{Suited}
+use Rattle.fidelity.specs.Values.{Ratios, tierLong}
+
+-- a plan that creation accepts, of one schema, and suited
+pub record Planned (p : List ℕ) : Type 0 where
+  pub shape-is : Shape p
+  pub layout-is : layoutCheck p ≡ 0
+  pub one-schema : schemas p ≡ 1
+  pub suited-is : Suited p
+
+abbrev pub coarsest : List ℕ → ℕ
+coarsest p = rowAt p (rowCount p - 1) .interval
+
+-- so many intervals of tier k are one of tier k + 1, and so many are a coarsest one
+unfoldable pub ratio : List ℕ → ℕ → ℕ
+ratio p k = rowAt p (suc k) .interval / rowAt p k .interval
+
+unfoldable pub per : List ℕ → ℕ → ℕ
+per p k = coarsest p / rowAt p k .interval
+
+module _ {p : List ℕ} (ok : Planned p) where
+  pub long : (k : ℕ) → k < rowCount p → 0 < rowAt p k .interval
+  long k h = tiers-ok p (ok .shape-is) (ok .layout-is) k h .long
+
+  pub next-interval : (k : ℕ) → suc k < rowCount p → rowAt p (suc k) .interval ≡ ratio p k * rowAt p k .interval
+  unfolding ratio
+  next-interval k h = multiple (rowAt p (suc k) .interval) (rowAt p k .interval) (ok .suited-is .rungs k h .whole)
+
+  pub ratio-in : (k : ℕ) → suc k < rowCount p → (0 < ratio p k) × (ratio p k ≤ 4096)
+  unfolding ratio
+  ratio-in k h = let r = ok .suited-is .rungs k h in (omega (arith, r .least), r .most)
+
+  -- the coarsest p interval in intervals of tier k, from the coarsest p tier down
+  record Whole (k : ℕ) : Type 0 where
+    many : ℕ
+    whole : coarsest p ≡ many * rowAt p k .interval
+    some : 0 < many
+
+  down : (j k : ℕ) → suc (k + j) ≡ rowCount p → Whole k
+  down zero k e =
+      let f : rowCount p - 1 ≡ k = omega arith in
+      record { many = 1; whole = ap (λ (v : ℕ). rowAt p v .interval) f ∙ omega arith; some = omega arith }
+  down (suc j) k e =
+      let u = down j (suc k) (omega arith) in
+      let h : suc k < rowCount p = omega arith in
+      record {
+        many = u .many * ratio p k;
+        whole = u .whole ∙ ap (λ (v : ℕ). u .many * v) (next-interval k h) ∙ sym (mul-assoc (u .many) (ratio p k) (rowAt p k .interval));
+        some = mul-pos (u .some) (ratio-in k h .0);
+      }
+
+  per-whole : (k : ℕ) (h : k < rowCount p) (w : Whole k) → per p k ≡ w .many
+  unfolding per
+  per-whole k h w = ap (λ (v : ℕ). v / rowAt p k .interval) (w .whole) ∙ mul-div-cancel (w .many) (long k h)
+
+  at : (k : ℕ) → k < rowCount p → Whole k
+  at k h = down (rowCount p - suc k) k (omega arith)
+
+  pub coarsest-is : (k : ℕ) → k < rowCount p → coarsest p ≡ per p k * rowAt p k .interval
+  coarsest-is k h = at k h .whole ∙ ap (λ (v : ℕ). v * rowAt p k .interval) (sym (per-whole k h (at k h)))
+
+  pub some-per : (k : ℕ) → k < rowCount p → 0 < per p k
+  some-per k h = rw (per-whole k h (at k h)) (at k h .some)
+
+  pub next-per : (k : ℕ) → suc k < rowCount p → per p k ≡ per p (suc k) * ratio p k
+  next-per k h = per-whole k (omega arith) (record {
+    many = per p (suc k) * ratio p k;
+    whole = coarsest-is (suc k) h ∙ ap (λ (v : ℕ). per p (suc k) * v) (next-interval k h) ∙ sym (mul-assoc (per p (suc k)) (ratio p k) (rowAt p k .interval));
+    some = mul-pos (some-per (suc k) h) (ratio-in k h .0);
+  })
+
+  pub span : (k : ℕ) → k < rowCount p → per p k ≤ rowSlots (rowAt p k)
+  span k h =
+      le-of-mul-le-mul-right {k = rowAt p k .interval} (subst (λ (v : ℕ). v ≤ rowSlots (rowAt p k) * rowAt p k .interval) (coarsest-is k h) (ok .suited-is .spans k h)) (long k h)
+
+  -- the finest interval is the least
+  pub finest-least : (k : ℕ) → k < rowCount p → rowAt p 0 .interval ≤ rowAt p k .interval
+  finest-least zero h = omega arith
+  finest-least (suc k) h = omega (arith, finest-least k (omega arith), next-interval k h, mul-le-mul-right (rowAt p k .interval) (ratio-in k h .0))
+
+  -- tier k in ticks
+  pub interval-ticks : (k : ℕ) → k < rowCount p → rowAt p k .interval ≡ tierLong (ratio p) k * rowAt p 0 .interval
+  unfolding tierLong
+  interval-ticks zero h = omega arith
+  interval-ticks (suc k) h = next-interval k h ∙ ap (λ (v : ℕ). ratio p k * v) (interval-ticks k (omega arith)) ∙ swap (ratio p k) (tierLong (ratio p) k) (rowAt p 0 .interval)
+    where
+      swap : (a b c : ℕ) → a * (b * c) ≡ b * a * c
+      swap a b c = omega arith
+
+  pub per-ticks : (k : ℕ) → k < rowCount p → per p 0 ≡ per p k * tierLong (ratio p) k
+  unfolding tierLong
+  per-ticks zero h = omega arith
+  per-ticks (suc k) h = per-ticks k (omega arith) ∙ rw (next-per k h) (swap (per p (suc k)) (ratio p k) (tierLong (ratio p) k))
+    where
+      swap : (a b c : ℕ) → a * b * c ≡ a * (c * b)
+      swap a b c = omega arith
+
+  pub ratios : (k : ℕ) → k < rowCount p → Ratios (ratio p) k
+  ratios k h j l = ratio-in j (omega arith)
+
+  -- all rows have one max series
+  pub series-same : (k : ℕ) → k < rowCount p → rowAt p k .series ≡ rowAt p 0 .series
+  series-same k h =
+      let l : Lent = record { image = p; flags = [] } in
+      sym (series-one l (ok .shape-is) (ok .one-schema) k h) ∙ series-one l (ok .shape-is) (ok .one-schema) 0 (omega arith)

@@ -1,0 +1,48 @@
+-- `record::store` meets its contract: the row's slab is lent on, and what comes back is put in its place. Assumes nothing.
+use native.Mathlib.Omega.{arith}
+use Rattle.ring.specs.Parts.{one}
+use Rattle.record.proofs.Laws.{lent-sound, lent-write}
+use borrow.Author.Needs.{needs}
+use Rattle.record.proofs.store.Statement.{statement}
+use Rattle.record.proofs.store.Tie as tie
+
+slab-at-requires : tie.Need-slab-at-requires
+slab-at-requires c κs = search needs
+
+flag-requires : tie.Need-flag-requires
+flag-requires c κs = search needs
+
+sub-write : tie.Need-sub-write
+sub-write c = search needs
+
+part-write-start : tie.Need-part-write-start
+part-write-start c = search needs
+
+part-write-end : tie.Need-part-write-end
+part-write-end c = search needs
+
+write-requires : tie.Need-write-requires
+write-requires c κs = (lent-sound (c .before .before .slab-at .ensures), (c .before .before .slab-at .ensures .some-interval, omega arith))
+
+with-flag-requires : tie.Need-with-flag-requires
+with-flag-requires c κs = search needs
+
+same-length : tie.Need-same-length
+same-length c = search needs
+
+returns : tie.Need-returns
+returns c = lent-write (c .before .before .before .before .before .before .slab-at .ensures) (c .before .before .before .before .before .before .before .before .before .args .flags) (one (c .before .before .before .before .before .before .before .before .before .args .column) (c .before .before .before .before .before .before .before .before .before .args .value)) (c .before .before .before .before .before .before .before .before .before .args .stamp) (c .before .before .before .before .before .flag .ensures) (search needs) (c .before .before .before .write .ensures .0) (c .with-flag .ensures)
+
+pub store-spec : {M : Type 1} → statement M
+store-spec =
+    tie.close
+    (tie.spec
+    slab-at-requires
+    flag-requires
+    sub-write
+    part-write-start
+    part-write-end
+    write-requires
+    with-flag-requires
+    same-length
+    returns)

@@ -1,0 +1,7 @@
+pub mod Setup
+pub mod OnePair
+pub mod Run
+pub mod Live
+pub mod Accepted
+pub mod Calls
+pub mod Query

@@ -1,0 +1,100 @@
+-- The query behind a run. Calls without events leave the store as it is; the query of a used column over all time is not refused, and its reader hands out
+-- the newest numbers that the tier's ring holds, ascending, each with its value. Assumes nothing.
+use Prim.Native.Nat.{ℕ, zero, suc, _+_, _-_, _*_, _^_, _≤_, _<_}
+use native.Mathlib.Nat.{mul-le-mul-right, mul-pos}
+use native.Mathlib.Omega.{arith}
+use mathlib.Core.Path.{_≡_, refl, ap, _∙_}
+use mathlib.Core.Bool.{true}
+use mathlib.Core.List.{List, [], _∷_, _++_, map}
+use lib.ListN.{length}
+use Rattle.model.specs.Image.{schemas, first, unless}
+use Rattle.model.specs.Lent.{Lent, tiers}
+use Rattle.model.specs.Record.{Entry, handleOk, recordCheck, recordOn, batchCheck, entriesOf, writeSome, writeSchemas, batchOn}
+use Rattle.model.specs.Query.{queryCheck, answered, queryOn, query}
+use Rattle.model.specs.Store.{Call, recordCall, batchCall, queryCall, autoCall, consolidateCall, readOr, call, after}
+use Rattle.model.specs.Demand.{Event, took, ran, ifAccepted, eventsOf, events, handedOut}
+use Rattle.laws.specs.Tests.{yes-lt}
+use Rattle.rings.specs.Hold.{firstHeld}
+use Rattle.rings.specs.Read.{pts, all-points}
+use Rattle.frame.specs.Good.{open-good}
+use Rattle.frame.specs.Tiers.{length-one}
+use Rattle.runs.specs.Setup.{Setup, tierCount, intervalOf, slotsOf, firstNo, Tier, end-stamp}
+use Rattle.runs.specs.Run.{Settled}
+use Rattle.runs.specs.Calls.{rowNo-is, series-are}
+
+-- ---- calls without events
+
+not-nil : {A : Type 0} (x : A) (xs : List A) → x ∷ xs ≡ [] → ⊥
+not-nil x xs h = let z : suc (length xs) ≡ 0 = ap length h in omega arith
+
+nil-both : {A : Type 0} (xs ys : List A) → xs ++ ys ≡ [] → (xs ≡ []) × (ys ≡ [])
+nil-both [] ys h = (refl, h)
+nil-both (x ∷ xs) ys h = absurd (not-nil x (xs ++ ys) h)
+
+batch-none : (l : Lent) (k j t : ℕ) → writeSchemas l k j [] t ≡ l
+unfolding writeSchemas entriesOf writeSome
+batch-none l k zero t = refl
+batch-none l k (suc j) t = batch-none l (suc k) j t
+
+idle-record : (l : Lent) (n k c v t : ℕ) (x : Event) → ifAccepted n (x ∷ []) ≡ [] → recordOn n l k c v t ≡ l
+unfolding ifAccepted recordOn
+idle-record l zero k c v t x h = absurd (not-nil x [] h)
+idle-record l (suc n) k c v t x h = refl
+
+idle-batch : (l : Lent) (n : ℕ) (f : Entry → Event) (xs : List Entry) (t : ℕ) → ifAccepted n (map f xs) ≡ [] → batchOn n l xs t ≡ l
+unfolding ifAccepted batchOn
+idle-batch l zero f [] t h = batch-none l 0 (schemas (l .image)) t
+idle-batch l zero f (x ∷ xs) t h = absurd (not-nil (f x) (map f xs) h)
+idle-batch l (suc n) f xs t h = refl
+
+idle-call : (l : Lent) (c : Call) → eventsOf l c ≡ [] → call l c .lent ≡ l
+unfolding eventsOf call
+idle-call l (recordCall k c v t) h = idle-record l (recordCheck l k c v t) k c v t (took (record { column = c; stamp = t; value = v })) h
+idle-call l (batchCall xs t) h = idle-batch l (batchCheck l xs t) (λ x. took (record { column = x .column; stamp = t; value = x .value })) xs t h
+idle-call l (queryCall k c j start end) h = refl
+idle-call l (autoCall k c start end) h = refl
+idle-call l consolidateCall h = absurd (not-nil ran [] h)
+
+pub idle-calls : (cs : List Call) (l : Lent) → events l cs ≡ [] → after l cs ≡ l
+unfolding events after
+idle-calls [] l h = refl
+idle-calls (c ∷ cs) l h =
+    let n = nil-both (eventsOf l c) (events (call l c .lent) cs) h in
+    idle-calls cs (call l c .lent) (n .1) ∙ idle-call l c (n .0)
+
+-- ---- the query
+
+module _ {S : Setup} {l : Lent} {N : ℕ} (st : Settled S l N) (top : N ≤ S .most) (c k : ℕ) (hc : c < S .columns) (hu : S .isUsed c ≡ true) (hk : k < tierCount S) where
+  check : queryCheck l 0 c k 0 (2 ^ 64 - 1) ≡ 0
+  unfolding queryCheck first unless handleOk
+  check =
+      let b = st .base in
+      rw (
+        open-good (l .image) (b .good),
+        b .one-schema,
+        series-are b,
+        yes-lt c (S .columns) hc,
+        length-one l (b .good .shape-is) (b .one-schema),
+        b .like .count-is,
+        yes-lt k (tierCount S) hk,
+      )
+
+  tier : Tier S l k N
+  tier = st .tiers k hk
+
+  -- stamps are below the end of all time
+  stamp-low : (q : ℕ) → q < firstNo S k + N * S .per k → q * intervalOf S k < 2 ^ 64 - 1
+  stamp-low q h =
+      let m : S .first + N ≤ S .first + S .most = omega arith in
+      omega (arith, end-stamp S k N hk, mul-le-mul-right (intervalOf S k) h, mul-le-mul-right (S .coarsest) m, S .low k hk)
+
+  -- what the reader hands out
+  pub answer-is : handedOut (call l (queryCall 0 c k 0 (2 ^ 64 - 1)) .reply)
+      ≡ pts (S .value k c) (intervalOf S k) (firstHeld (slotsOf S k) (firstNo S k) (N * S .per k)) (firstNo S k + N * S .per k - firstHeld (slotsOf S k) (firstNo S k) (N * S .per k))
+  unfolding call readOr query queryOn answered handedOut
+  answer-is =
+      rw (check, rowNo-is (st .base) k)
+      (all-points (tier .state) (mul-pos (S .later) (S .some-per k hk)) c (S .value k c) (2 ^ 64 - 1) hc (rw hu at (tier .cols c hc)) (λ q x y. S .number k c q hk hc hu x (below q y)) stamp-low)
+    where
+      below : (q : ℕ) → q < firstNo S k + N * S .per k → q < (S .first + S .most) * S .per k
+      below q h = omega (arith, mul-le-mul-right (S .per k) top)
