@@ -63,7 +63,7 @@ pub fn slab_at(image: &[u8], row: usize) -> Slab
 }
 
 // The first row of a schema.
-fn first_row(image: &[u8], schema: u64) -> usize
+pub fn first_row(image: &[u8], schema: u64) -> usize
     requires { ⌜ openCheck (now image) ≡ 0 ⌝ }
     requires { ⌜ schema < schemas (now image) ⌝ }
     ensures { λ r. ⌜ (r ≡ firstRow schema (rows (now (image .entry)))) × (r < rowCount (now (image .entry))) ⌝ }

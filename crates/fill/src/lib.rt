@@ -1,0 +1,95 @@
+// A pair's writes over one image: windows ascending, columns ascending in each. The source is read as a part of the image, then the destination is lent on as
+// another part, one after the other; a refusal ends them. The source's bytes, and all others but the destination's, stay.
+ghost use mathlib.Core.Path.{_≡_};
+ghost use Prim.Native.Nat.{_+_, _*_, _<_, _≤_, _^_};
+ghost use Rattle.model.specs.declared.Outcome.the-variants.{Accepted};
+ghost use Rattle.model.specs.Window.{windowAnswer};
+ghost use Rattle.model.specs.Consolidate.{writeAnswer, fillWindow, fill, windows};
+ghost use Rattle.fill.specs.Parts.{Lies, Keeps, jobOf, filledIn};
+
+// A pair: where the source stands in the image and what is read of it, and the destination.
+pub struct Pair {
+    pub from: usize,
+    pub to: usize,
+    pub reading: window::Reading,
+    pub dest: lent::Slab,
+}
+
+// One column of a window.
+fn fill_column(
+    image: &mut [u8],
+    p: Pair,
+    filling: answers::Filling,
+    window: u64,
+    column: usize,
+) -> answers::Filling
+    requires { ⌜ Lies (now image) p ⌝ }
+    requires { ⌜ (column < p .reading .series) × (filling .writes < 2 ^ 63) ⌝ }
+    ensures { λ r. ⌜ filledIn (now (image .exit)) p r ≡ writeAnswer (windowAnswer (jobOf (now (image .entry)) p) window column) (filledIn (now (image .entry)) p filling) window column ⌝ }
+    ensures { λ r. ⌜ Keeps (now (image .entry)) (now (image .exit)) p × (r .writes ≤ filling .writes + 1) ⌝ }
+{
+    let q = p.reading;
+    let from = p.from;
+    let to = p.to;
+    let x = window::answer(&image[from..to], q, window, column);
+    let d = p.dest;
+    let start = d.from;
+    let end = d.to;
+    answers::write_answer(&mut image[start..end], d, x, filling, window, column)
+}
+
+// Every column of a window.
+fn fill_window(
+    image: &mut [u8],
+    p: Pair,
+    filling: answers::Filling,
+    window: u64,
+) -> answers::Filling
+    requires { ⌜ Lies (now image) p ⌝ }
+    requires { ⌜ (filling .outcome ≡ Accepted) × (filling .writes + p .reading .series ≤ 2 ^ 63) ⌝ }
+    ensures { λ r. ⌜ filledIn (now (image .exit)) p r ≡ fillWindow (jobOf (now (image .entry)) p) (filledIn (now (image .entry)) p filling) window 0 (p .reading .series) ⌝ }
+    ensures { λ r. ⌜ Keeps (now (image .entry)) (now (image .exit)) p × (r .writes ≤ filling .writes + p .reading .series) ⌝ }
+{
+    let q = p.reading;
+    let m = q.series;
+    let mut done = filling;
+    let mut column = 0;
+    while column < m {
+        done = fill_column(image, p, done, window, column);
+        let outcome = done.outcome;
+        let model::Outcome::Accepted = outcome else {
+            return done;
+        };
+        column = column + 1;
+    }
+    done
+}
+
+// Every window: the next one is searched from behind the one before.
+pub fn fill_windows(image: &mut [u8], p: Pair, filling: answers::Filling) -> answers::Filling
+    requires { ⌜ Lies (now image) p ⌝ }
+    requires { ⌜ (filling .outcome ≡ Accepted) × (filling .writes + p .reading .series * p .reading .slots ≤ 2 ^ 63) ⌝ }
+    ensures { λ r. ⌜ filledIn (now (image .exit)) p r ≡ fill (jobOf (now (image .entry)) p) (filledIn (now (image .entry)) p filling) (windows (jobOf (now (image .entry)) p)) (p .reading .series) ⌝ }
+    ensures { λ r. ⌜ Keeps (now (image .entry)) (now (image .exit)) p × (r .writes ≤ filling .writes + p .reading .series * p .reading .slots) ⌝ }
+{
+    let q = p.reading;
+    let from = p.from;
+    let to = p.to;
+    let mut done = filling;
+    let mut bound: u64 = 0;
+    let mut left = q.slots;
+    while 0 < left {
+        let next = search::next_window(&image[from..to], q, bound);
+        let model::End::At(w) = next else {
+            return done;
+        };
+        done = fill_window(image, p, done, w);
+        let outcome = done.outcome;
+        let model::Outcome::Accepted = outcome else {
+            return done;
+        };
+        bound = w + 1;
+        left = left - 1;
+    }
+    done
+}

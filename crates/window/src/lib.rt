@@ -1,0 +1,181 @@
+// A window's answer for one column of a source: two passes over the slots in ring order, one for the counts and one for the fold of the finite values; then
+// no value, a number, or NaN because nothing finite remained. `gather_values` alone says what the passes find, so that another way to find it changes nothing else.
+ghost use mathlib.Core.Path.{_≡_};
+ghost use Prim.Native.Nat.{_+_, _<_, _≤_};
+ghost use mathlib.Core.List.{[]};
+ghost use Rattle.model.specs.Ring.{stamp, cell, walk, order};
+ghost use Rattle.model.specs.Window.{windowOf, heldValue, held, heldIn, keepFinite, fold, foldStart, finites, windowAnswer};
+ghost use Rattle.window.specs.Parts.{Readable, jobIn, Counted, Counts, gather, Fine};
+
+// A source that is read: its sizes and its flag, what is made of it, the destination's interval, and the range.
+pub struct Reading {
+    pub slots: usize,
+    pub series: usize,
+    pub wrapped: bool,
+    pub function: model::ConsolidationFn,
+    pub long: u64,
+    pub start: u64,
+    pub end: u64,
+}
+
+// How many values a window has, and how many of them are finite.
+struct Count {
+    seen: usize,
+    finite: usize,
+}
+
+// The same, with the fold of the finite ones.
+pub struct Gathered {
+    pub seen: usize,
+    pub finite: usize,
+    pub value: f64,
+}
+
+// The start of the window that a stamp falls in.
+pub fn window_of(long: u64, stamp: u64) -> u64
+    requires { ⌜ 0 < long ⌝ }
+    ensures { λ r. ⌜ (r ≡ windowOf long stamp) × (r ≤ stamp) ⌝ }
+{
+    stamp / long * long
+}
+
+// What a value's pattern stands for.
+fn held_value(v: u64) -> model::Held
+    ensures { λ r. ⌜ r ≡ heldValue v ⌝ }
+{
+    let nan = field::is_nan(v);
+    if nan {
+        return model::Held::Outside;
+    }
+    let infinite = field::is_infinite(v);
+    if infinite {
+        return model::Held::Infinite;
+    }
+    let x = f64::from_bits(v);
+    model::Held::Finite(x)
+}
+
+// What a slot holds for a window.
+fn held_at(slab: &[u8], q: Reading, window: u64, column: usize, slot: usize) -> model::Held
+    requires { ⌜ Readable (now slab) q ⌝ }
+    requires { ⌜ (slot < q .slots) × (column < q .series) ⌝ }
+    ensures { λ r. ⌜ r ≡ held (jobIn (now (slab .entry)) q) window (stamp (now (slab .entry)) slot) (cell (now (slab .entry)) column slot) ⌝ }
+{
+    let t = ring::stamp_of(slab, q.slots, q.series, slot);
+    if t < q.start {
+        return model::Held::Outside;
+    }
+    if t >= q.end {
+        return model::Held::Outside;
+    }
+    let w = window_of(q.long, t);
+    if w != window {
+        return model::Held::Outside;
+    }
+    let v = ring::cell_of(slab, q.slots, q.series, column, slot);
+    held_value(v)
+}
+
+// One slot counted.
+fn counted(k: Count, h: model::Held) -> Count
+    requires { ⌜ (k .seen < 4294967296) × (k .finite < 4294967296) ⌝ }
+    ensures { λ r. ⌜ Counted (k .seen) (k .finite) h (r .seen) (r .finite) ⌝ }
+{
+    match h {
+        model::Held::Outside => k,
+        model::Held::Infinite => Count {
+            seen: k.seen + 1,
+            finite: k.finite,
+        },
+        model::Held::Finite(x) => Count {
+            seen: k.seen + 1,
+            finite: k.finite + 1,
+        },
+    }
+}
+
+// The first pass: how many values the window has, and how many of them are finite.
+fn count_values(slab: &[u8], q: Reading, window: u64, column: usize, place: model::Place) -> Count
+    requires { ⌜ Readable (now slab) q ⌝ }
+    requires { ⌜ (place .slot < q .slots) × (place .left ≤ q .slots) × (column < q .series) ⌝ }
+    ensures { λ r. ⌜ Counts (heldIn (jobIn (now (slab .entry)) q) window column (walk (q .slots) (place .slot) (place .left))) (r .seen) (r .finite) ⌝ }
+    ensures { λ r. ⌜ r .finite ≤ q .slots ⌝ }
+{
+    let mut k = Count { seen: 0, finite: 0 };
+    let mut slot = place.slot;
+    let mut left = place.left;
+    while 0 < left {
+        let h = held_at(slab, q, window, column, slot);
+        k = counted(k, h);
+        slot = ring::next_slot(q.slots, slot);
+        left = left - 1;
+    }
+    k
+}
+
+// One slot's value entered, if it is finite.
+fn entered(f: model::ConsolidationFn, a: f64, h: model::Held) -> f64
+    ensures { λ r. ⌜ r ≡ fold f a (keepFinite h []) ⌝ }
+{
+    match h {
+        model::Held::Outside => a,
+        model::Held::Infinite => a,
+        model::Held::Finite(x) => apply::fold_step(f, a, x),
+    }
+}
+
+// The second pass: the finite values, left to right.
+fn folded(slab: &[u8], q: Reading, window: u64, column: usize, place: model::Place) -> f64
+    requires { ⌜ Readable (now slab) q ⌝ }
+    requires { ⌜ (place .slot < q .slots) × (place .left ≤ q .slots) × (column < q .series) ⌝ }
+    ensures { λ r. ⌜ r ≡ fold (q .function) (foldStart (q .function)) (finites (heldIn (jobIn (now (slab .entry)) q) window column (walk (q .slots) (place .slot) (place .left)))) ⌝ }
+{
+    let f = q.function;
+    let mut a = apply::fold_start(f);
+    let mut slot = place.slot;
+    let mut left = place.left;
+    while 0 < left {
+        let h = held_at(slab, q, window, column, slot);
+        a = entered(f, a, h);
+        slot = ring::next_slot(q.slots, slot);
+        left = left - 1;
+    }
+    a
+}
+
+// What a window has in a column.
+fn gather_values(slab: &[u8], q: Reading, window: u64, column: usize) -> Gathered
+    requires { ⌜ Readable (now slab) q ⌝ }
+    requires { ⌜ column < q .series ⌝ }
+    ensures { λ r. ⌜ r ≡ gather (q .function) (heldIn (jobIn (now (slab .entry)) q) window column (order (jobIn (now (slab .entry)) q .source))) ⌝ }
+    ensures { λ r. ⌜ r .finite < 4294967296 ⌝ }
+{
+    let place = ring::first_place(slab, q.slots, q.series, q.wrapped);
+    let k = count_values(slab, q, window, column, place);
+    let a = folded(slab, q, window, column, place);
+    Gathered {
+        seen: k.seen,
+        finite: k.finite,
+        value: a,
+    }
+}
+
+// The window's answer for a column. A number is never NaN.
+pub fn answer(slab: &[u8], q: Reading, window: u64, column: usize) -> model::WindowAnswer
+    requires { ⌜ Readable (now slab) q ⌝ }
+    requires { ⌜ column < q .series ⌝ }
+    ensures { λ r. ⌜ (r ≡ windowAnswer (jobIn (now (slab .entry)) q) window column) × Fine r ⌝ }
+{
+    let g = gather_values(slab, q, window, column);
+    let seen = g.seen;
+    if seen == 0 {
+        return model::WindowAnswer::Empty;
+    }
+    let finite = g.finite;
+    if finite == 0 {
+        return model::WindowAnswer::NothingFinite;
+    }
+    let f = q.function;
+    let x = apply::fold_end(f, g.value, finite);
+    model::WindowAnswer::Number(x)
+}
