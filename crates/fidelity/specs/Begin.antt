@@ -15,7 +15,7 @@ use Rattle.rings.specs.Hold.{Blank, blank-state}
 use Rattle.samples.specs.Ticks.{regular-nil, reached-nil}
 use Rattle.fresh.specs.Creation.{good-created, created-like, created-mark, created-flags, created-blank, created-cell}
 use Rattle.runs.specs.Setup.{Setup, tierCount, intervalOf, slotsOf, firstNo, Tier, markOf, Base}
-use Rattle.runs.specs.Live.{Live}
+use Rattle.runs.specs.Between.{Between}
 
 -- low: each max series fits its field
 module _ (S : Setup) (l : Lent) (accepted : createCheck (S .plan) (l .image) ≡ 0) (one : schemas (S .plan) ≡ 1)
@@ -43,7 +43,7 @@ module _ (S : Setup) (l : Lent) (accepted : createCheck (S .plan) (l .image) ≡
       nothing true = refl
       nothing false = refl
 
-  pub begins : Live S (creation (S .plan) l) [] 0 0 false
+  pub begins : Between S (creation (S .plan) l) [] 0 0 false
   begins =
       let h : 0 < tierCount S = omega (arith, S .many) in
       record {

@@ -1,16 +1,34 @@
--- The concrete store of three tiers in model/specs/Instance.antt, where the promise is computed: here it follows from the theorem, for each of its columns
--- and tiers. So the theorem's supposition can be met. Assumes nothing.
+-- The concrete store of three tiers in model/specs/Instance.antt, where the promise is computed: here it follows from the theorem, for each of its tiers and
+-- used columns. So the theorem's supposition can be met. Assumes nothing.
 use Prim.Native.Nat.{ℕ, _<_}
-use mathlib.Core.Path.{_≡_, refl, sym, ap, subst}
+use mathlib.Core.Path.{_≡_, refl, sym, subst}
 use mathlib.Core.List.{List}
-use lib.Dec.{T}
-use Rattle.model.specs.Demand.{Event, samplesIn, supposed, used, history, each, samples, due, answers, tierInterval, ThirdDemand, Demand-defs}
-use Rattle.model.specs.Cases.{Cases-defs}
-use Rattle.model.specs.Instance.{tiers, minus, minusZero, both, calls, story, sample, did, accepted-plan, suited-plan, history-is, met, quiet}
+use lib.Dec.{T, lit<}
+use Rattle.model.specs.Image.{rowCount, schemas}
+use Rattle.model.specs.Demand.{Event, samplesIn, used, supposed, finest, coarsest, created, upToRun, afterRun, samples, tierInterval, due, each, answers, ThirdDemand}
+use Rattle.model.specs.Cases.{plan}
+use Rattle.model.specs.Instance.{Instance-defs, tiers, story, did, accepted-plan, suited-plan, history-is, met, quiet}
 use Rattle.fidelity.specs.Theorem.{proof}
 
-pub promised : (k : ℕ) → k < 3 → T (each 1 (tierInterval (story 1 k)) k (samples (story 1 k)) (due (story 1 k)) (answers (story 1 k)))
-unfolding ThirdDemand Cases-defs Demand-defs tiers minus minusZero both calls story
-promised k h =
-    proof (story 1 k) accepted-plan refl suited-plan (subst (λ (es : List Event). T (supposed 10 40 es)) (sym (history-is 1 k)) (met .0)) quiet
-    (subst (λ (es : List Event). T (used 1 (samplesIn es))) (sym (history-is 1 k)) (met .1)) h
+one-schema : schemas (plan tiers) ≡ 1
+unfolding Instance-defs
+one-schema = refl
+
+three-rows : rowCount (plan tiers) ≡ 3
+unfolding Instance-defs
+three-rows = refl
+
+supposition : (c k : ℕ) → T (supposed (finest (story c k)) (coarsest (story c k)) did)
+unfolding Instance-defs
+supposition c k = met .0
+
+pub promised : (c k : ℕ) → T (used c (samplesIn did)) → k < 3 → T (each c (tierInterval (story c k)) k (samples (story c k)) (due (story c k)) (answers (story c k)))
+unfolding ThirdDemand story samples afterRun created upToRun
+promised c k u h =
+    proof (story c k) accepted-plan one-schema suited-plan
+    (subst (λ (es : List Event). T (supposed (finest (story c k)) (coarsest (story c k)) es)) (sym (history-is c k)) (supposition c k)) quiet
+    (subst (λ (es : List Event). T (used c (samplesIn es))) (sym (history-is c k)) u) (subst (λ (n : ℕ). k < n) (sym three-rows) h)
+
+-- so column 1 at the coarsest tier
+pub promised-coarsest : T (each 1 (tierInterval (story 1 2)) 2 (samples (story 1 2)) (due (story 1 2)) (answers (story 1 2)))
+promised-coarsest = promised 1 2 (met .1) (lit< tt)

@@ -83,7 +83,8 @@ module _ {p : List ℕ} (ok : Planned p) where
 
   pub span : (k : ℕ) → k < rowCount p → per p k ≤ rowSlots (rowAt p k)
   span k h =
-      le-of-mul-le-mul-right {k = rowAt p k .interval} (subst (λ (v : ℕ). v ≤ rowSlots (rowAt p k) * rowAt p k .interval) (coarsest-is k h) (ok .suited-is .spans k h)) (long k h)
+      le-of-mul-le-mul-right {k = rowAt p k .interval}
+      (subst (λ (v : ℕ). v ≤ rowSlots (rowAt p k) * rowAt p k .interval) (coarsest-is k h) (ok .suited-is .spans k h)) (long k h)
 
   -- the finest interval is the least
   pub finest-least : (k : ℕ) → k < rowCount p → rowAt p 0 .interval ≤ rowAt p k .interval
@@ -94,7 +95,9 @@ module _ {p : List ℕ} (ok : Planned p) where
   pub interval-ticks : (k : ℕ) → k < rowCount p → rowAt p k .interval ≡ tierLong (ratio p) k * rowAt p 0 .interval
   unfolding tierLong
   interval-ticks zero h = omega arith
-  interval-ticks (suc k) h = next-interval k h ∙ ap (λ (v : ℕ). ratio p k * v) (interval-ticks k (omega arith)) ∙ swap (ratio p k) (tierLong (ratio p) k) (rowAt p 0 .interval)
+  interval-ticks (suc k) h =
+      next-interval k h ∙ ap (λ (v : ℕ). ratio p k * v) (interval-ticks k (omega arith))
+      ∙ swap (ratio p k) (tierLong (ratio p) k) (rowAt p 0 .interval)
     where
       swap : (a b c : ℕ) → a * (b * c) ≡ b * a * c
       swap a b c = omega arith

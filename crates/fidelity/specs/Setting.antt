@@ -12,7 +12,7 @@ use Rattle.samples.specs.Lists.{valueAt, value-ok}
 use Rattle.samples.specs.Ticks.{Steady}
 use Rattle.samples.specs.Supposed.{Spans}
 use Rattle.runs.specs.Setup.{Setup}
-use Rattle.runs.specs.Live.{Fits}
+use Rattle.runs.specs.Between.{Fits}
 use Rattle.fidelity.specs.Values.{tierLong, tierValue, Offsets, finite-bits, value-finite, value-given}
 use Rattle.fidelity.specs.Plan.{Planned, ratio, coarsest, per, next-interval, ratio-in, coarsest-is, some-per, next-per, span, finest-least, per-ticks, ratios, series-same}
 
@@ -36,7 +36,9 @@ module _ {p : List ℕ} (ok : Planned p) {xs : List Sample} (h : Supplied p xs) 
       let a : h .span-is .A * per p k * L ≤ q * L = mul-le-mul-right L lo in
       let b : suc q * L ≤ (h .span-is .A + h .span-is .Z) * per p k * L = mul-le-mul-right L hi in
       let f : h .span-is .A * per p 0 + (i - h .span-is .A * per p 0) ≡ i = from (h .span-is .A) (h .span-is .Z) (per p 0) (per p k) L i e (omega arith) in
-      subst (λ (v : ℕ). count (isAt c (v * rowAt p 0 .interval)) xs ≡ 1) f (h .steady-is .gap c (i - h .span-is .A * per p 0) hu (to (h .span-is .A) (h .span-is .Z) (per p 0) (per p k) L i e (omega arith) (omega arith)))
+      subst (λ (v : ℕ). count (isAt c (v * rowAt p 0 .interval)) xs ≡ 1) f
+      (h .steady-is .gap c (i - h .span-is .A * per p 0) hu
+      (to (h .span-is .A) (h .span-is .Z) (per p 0) (per p k) L i e (omega arith) (omega arith)))
     where
       from : (A Z p pk L i : ℕ) → p ≡ pk * L → A * pk * L ≤ i → A * p + (i - A * p) ≡ i
       from A Z p pk L i e h = rw e (omega (arith, mul-assoc A pk L))

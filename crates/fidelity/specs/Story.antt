@@ -28,7 +28,8 @@ use Rattle.samples.specs.Supposed.{Parts, parts, steady, Spans, spans}
 use Rattle.samples.specs.Suited.{Suited}
 use Rattle.mean.specs.Exact.{aboves, belows}
 use Rattle.runs.specs.Setup.{Setup, end-stamp}
-use Rattle.runs.specs.Live.{Fits, Next, RanOn, ran-here}
+use Rattle.runs.specs.Between.{Fits, Next}
+use Rattle.runs.specs.AtRun.{RanOn, ran-here}
 use Rattle.runs.specs.Accepted.{Accepted, accepted-calls, last-low, some-opens}
 use Rattle.runs.specs.Calls.{after-append, calls}
 use Rattle.runs.specs.Query.{answer-is}
@@ -127,23 +128,28 @@ module _ {p : List ℕ} {l : Lent} {before : List Call} (s : Story p l before) w
     e = 0;
     N = 0;
     b = false;
-    live = begins S l (s .accepted) (s .one-schema) (low-open p l (s .accepted) (some-opens (openCheck (creation p l .image)) xs recorded first-pos));
+    store = begins S l (s .accepted) (s .one-schema) (low-open p l (s .accepted) (some-opens (openCheck (creation p l .image)) xs recorded first-pos));
     on-schedule = pt .runs;
   }
 
   ready : Next S (after (creation p l) before) xs (ran ∷ [])
   ready = calls before (ran ∷ []) start fits
 
-  done : RanOn S (leftBy p l before) xs []
+  done : RanOn S (run (after (creation p l) before)) xs []
   unfolding samplesIn
-  done = ran-here [] (ready .live) (rw (append-nil xs) (rw all-samples at fits)) (ready .on-schedule)
+  done = ran-here [] (ready .store) (rw (append-nil xs) (rw all-samples at fits)) (ready .on-schedule)
+
+  -- the run is not refused
+  pub not-refused : run (after (creation p l) before) .refusal ≡ 0
+  not-refused = done .fine
 
   -- all coarsest intervals of the samples have been consolidated
   last-run : done .N ≡ Z
   unfolding S setting supplied
   last-run =
-      let e = done .live .reached .last-is (rw (done .whole) (mul-pos (done .pos) (some-per ok 0 here))) in
-      let f : (A + done .N) * D ≡ (A + Z) * D = sym (end-stamp S 0 (done .N) here) ∙ ap (λ (x : ℕ). (A * per p 0 + x) * d) (sym (done .whole)) ∙ sym e ∙ span .last-is in
+      let e = done .store .reached .last-is (rw (done .whole) (mul-pos (done .pos) (some-per ok 0 here))) in
+      let f : (A + done .N) * D ≡ (A + Z) * D =
+      sym (end-stamp S 0 (done .N) here) ∙ ap (λ (x : ℕ). (A * per p 0 + x) * d) (sym (done .whole)) ∙ sym e ∙ span .last-is in
       omega (arith, eq-of-mul-eq-mul-right D (long ok (rowCount p - 1) (omega (arith, here))) (A + done .N) (A + Z) f)
 
   pub after-run : after (creation p l) (before ++ consolidateCall ∷ []) ≡ leftBy p l before
@@ -159,7 +165,7 @@ module _ {p : List ℕ} {l : Lent} {before : List Call} (s : Story p l before) w
       where
         go : Dec (c < S .columns) → c < S .columns
         go (yes h) = h
-        go (no h) = absurd (omega (arith, lt-is 0 (count (ofColumn c) xs) hu, done .live .known c (omega arith)))
+        go (no h) = absurd (omega (arith, lt-is 0 (count (ofColumn c) xs) hu, done .store .known c (omega arith)))
 
     abbrev i : ℕ
     i = rowAt p k .interval
@@ -193,7 +199,8 @@ module _ {p : List ℕ} {l : Lent} {before : List Call} (s : Story p l before) w
         (within-is k (ofBits binary64 (tierValue (ratio p) X k q)) (sumOf (inWindow c (L * d) (q * L * d)) xs) (aboves zs) (belows zs) (length zs)
         (window-sum c d xs (long ok 0 here) on (q * L) L once) (value-within (ratio p) X k q (ratios ok k hk) (tick-offset ok supplied c k q hk hu lo hi)))
 
-    pub as-promised : T (each c (rowAt p k .interval) k (samplesOf p l before) (newestWindows (rowAt p 0 .interval) (rowAt p k .interval) (rowSlots (rowAt p k)) (samplesOf p l before))
+    pub as-promised : T (each c (rowAt p k .interval) k (samplesOf p l before)
+        (newestWindows (rowAt p 0 .interval) (rowAt p k .interval) (rowSlots (rowAt p k)) (samplesOf p l before))
         (handedOut (call (leftBy p l before) (queryCall 0 c k 0 (2 ^ 64 - 1)) .reply)))
     as-promised =
         rw (

@@ -84,10 +84,19 @@ module _ (c d g n : ℕ) (zd : 0 < d) where
           ≡ cond (isAt c (g * d) x) w 0 + cond (eqb (x .column) c && leb (suc g * d) (x .stamp) && ltb (x .stamp) (suc g * d + n * d)) w 0
       go (no p) q = rw (at-no-column x c (g * d) p, no-eq (x .column) c p)
       go (yes p) (yes q) =
-          rw (at-yes x c (g * d) p q, p, q, yes-eq c, yes-le (g * d) (g * d) (omega arith), yes-lt (g * d) (g * d + suc n * d) (omega arith), no-le (suc g * d) (g * d) (omega arith)) (sym (add-zero w))
+          rw (
+            at-yes x c (g * d) p q,
+            p,
+            q,
+            yes-eq c,
+            yes-le (g * d) (g * d) (omega arith),
+            yes-lt (g * d) (g * d + suc n * d) (omega arith),
+            no-le (suc g * d) (g * d) (omega arith),
+          ) (sym (add-zero w))
       go (yes p) (no q) =
           rw (at-no-stamp x c (g * d) q, p, yes-eq c, ends)
-          (ap (λ (b : Bool). cond (b && ltb (x .stamp) (suc g * d + n * d)) w 0) (from (decLt (g * d) (x .stamp))) ∙ sym (zero-add (cond (leb (suc g * d) (x .stamp) && ltb (x .stamp) (suc g * d + n * d)) w 0)))
+          (ap (λ (b : Bool). cond (b && ltb (x .stamp) (suc g * d + n * d)) w 0) (from (decLt (g * d) (x .stamp)))
+          ∙ sym (zero-add (cond (leb (suc g * d) (x .stamp) && ltb (x .stamp) (suc g * d + n * d)) w 0)))
         where
           from : Dec (g * d < x .stamp) → leb (g * d) (x .stamp) ≡ leb (suc g * d) (x .stamp)
           from (yes h) = rw (yes-le (g * d) (x .stamp) (omega arith), yes-le (suc g * d) (x .stamp) (next-tick (x .stamp) m h))
@@ -103,13 +112,15 @@ module _ (c d g n : ℕ) (zd : 0 < d) where
 no-window : (c w : ℕ) (W : ℕ → ℕ) (xs : List Sample) → weigh (inWindow c 0 w) W xs ≡ 0
 unfolding weigh inWindow
 no-window c w W [] = refl
-no-window c w W (x ∷ xs) = ap (λ (b : Bool). cond b (W (x .value)) 0 + weigh (inWindow c 0 w) W xs) (none (eqb (x .column) c) (decLt (x .stamp) w)) ∙ rw (no-window c w W xs)
+no-window c w W (x ∷ xs) =
+    ap (λ (b : Bool). cond b (W (x .value)) 0 + weigh (inWindow c 0 w) W xs) (none (eqb (x .column) c) (decLt (x .stamp) w)) ∙ rw (no-window c w W xs)
   where
     none : (b : Bool) → Dec (x .stamp < w) → b && leb w (x .stamp) && ltb (x .stamp) (w + 0) ≡ false
     none b (yes h) = rw (no-le w (x .stamp) h, and-false b)
     none b (no h) = rw (no-lt (x .stamp) (w + 0) (omega arith)) (and-false (b && leb w (x .stamp)))
 
-window-weigh : (c d : ℕ) (W : ℕ → ℕ) (xs : List Sample) → 0 < d → OnTicks d xs → (g n : ℕ) → ((p : ℕ) → g ≤ p → p < g + n → count (isAt c (p * d)) xs ≡ 1)
+window-weigh : (c d : ℕ) (W : ℕ → ℕ) (xs : List Sample) → 0 < d → OnTicks d xs → (g n : ℕ)
+    → ((p : ℕ) → g ≤ p → p < g + n → count (isAt c (p * d)) xs ≡ 1)
     → weigh (inWindow c (n * d) (g * d)) W xs ≡ sumOver (λ p. W (valueAt c (p * d) xs)) g n
 unfolding sumOver
 window-weigh c d W xs zd m g zero h = rw (zero-mul d) (no-window c (g * d) W xs)
@@ -150,7 +161,9 @@ is-whole (fin s m e) = is-signed s (m * up e / down e)
 sum-is : (f : Sample → Bool) (xs : List Sample) → Is (sumOf f xs) (weigh f above xs) (weigh f below xs)
 unfolding sumOf weigh above below
 sum-is f [] = refl
-sum-is f (x ∷ xs) = is-add (cond (f x) (wholePart (ofBits binary64 (x .value))) (pos 0)) (sumOf f xs) (cond (f x) (above (x .value)) 0) (cond (f x) (below (x .value)) 0) (weigh f above xs) (weigh f below xs) (one (f x)) (sum-is f xs)
+sum-is f (x ∷ xs) =
+    is-add (cond (f x) (wholePart (ofBits binary64 (x .value))) (pos 0)) (sumOf f xs) (cond (f x) (above (x .value)) 0) (cond (f x) (below (x .value)) 0)
+    (weigh f above xs) (weigh f below xs) (one (f x)) (sum-is f xs)
   where
     one : (b : Bool) → Is (cond b (wholePart (ofBits binary64 (x .value))) (pos 0)) (cond b (above (x .value)) 0) (cond b (below (x .value)) 0)
     one true = is-whole (ofBits binary64 (x .value))
@@ -164,5 +177,10 @@ module _ (c d : ℕ) (xs : List Sample) (zd : 0 < d) (m : OnTicks d xs) (g n : �
 
   pub window-sum : Is (sumOf (inWindow c (n * d) (g * d)) xs) (aboves (valuesOf (λ p. valueAt c (p * d) xs) g n)) (belows (valuesOf (λ p. valueAt c (p * d) xs) g n))
   window-sum =
-      rw (aboves-over (λ p. valueAt c (p * d) xs) g n, belows-over (λ p. valueAt c (p * d) xs) g n, ← window-weigh c d above xs zd m g n once, ← window-weigh c d below xs zd m g n once)
+      rw (
+        aboves-over (λ p. valueAt c (p * d) xs) g n,
+        belows-over (λ p. valueAt c (p * d) xs) g n,
+        ← window-weigh c d above xs zd m g n once,
+        ← window-weigh c d below xs zd m g n once,
+      )
       (sum-is (inWindow c (n * d) (g * d)) xs)

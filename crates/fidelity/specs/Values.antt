@@ -105,7 +105,8 @@ unfoldable pub tierLong : (ℕ → ℕ) → ℕ → ℕ
 tierLong r zero = 1
 tierLong r (suc k) = tierLong r k * r k
 
-all-of : {B : Type 0} (R : Float → B → Type 0) (f : ℕ → Float) (g : ℕ → B) (q n : ℕ) → ((p : ℕ) → q ≤ p → p < q + n → R (f p) (g p)) → All2 R (map f (upto q n)) (map g (upto q n))
+all-of : {B : Type 0} (R : Float → B → Type 0) (f : ℕ → Float) (g : ℕ → B) (q n : ℕ)
+    → ((p : ℕ) → q ≤ p → p < q + n → R (f p) (g p)) → All2 R (map f (upto q n)) (map g (upto q n))
 unfolding upto
 all-of R f g q zero h = tt
 all-of R f g q (suc n) h = (h q (omega arith) (omega arith), all-of R f g (suc q) n (λ p x y. h p (omega arith) (omega arith)))
@@ -151,14 +152,17 @@ module _ (r X : ℕ → ℕ) where
   pub value-finite : (k q : ℕ) → Ratios r k → Offsets r X k q → T (finite (ofBits binary64 (tierValue r X k q)))
   value-finite k q hr h = flat-within k (ofBits binary64 (tierValue r X k q)) (valuesOf X (q * tierLong r k) (tierLong r k)) (flat k q hr h) .0 .0
 
-  pub value-within : (k q : ℕ) → Ratios r k → Offsets r X k q → Within (ofBits binary64 (tierValue r X k q)) (wholeMean (valuesOf X (q * tierLong r k) (tierLong r k))) k
+  pub value-within : (k q : ℕ) → Ratios r k → Offsets r X k q
+      → Within (ofBits binary64 (tierValue r X k q)) (wholeMean (valuesOf X (q * tierLong r k) (tierLong r k))) k
   value-within k q hr h = flat-within k (ofBits binary64 (tierValue r X k q)) (valuesOf X (q * tierLong r k) (tierLong r k)) (flat k q hr h) .2
 
   -- a window's answer, as the pair writes it
-  pub value-given : (k q : ℕ) → Ratios r (suc k) → Offsets r X (suc k) q → Given (answerFor Average (patternsOf (tierValue r X k) (q * r k) (r k))) (tierValue r X (suc k) q)
+  pub value-given : (k q : ℕ) → Ratios r (suc k) → Offsets r X (suc k) q
+      → Given (answerFor Average (patternsOf (tierValue r X k) (q * r k) (r k))) (tierValue r X (suc k) q)
   value-given k q hr h =
       let vs = valuesOf (tierValue r X k) (q * r k) (r k) in
       given-number (apply Average vs) (tierValue r X (suc k) q)
       (finite-answer Average (tierValue r X k) (q * r k) (r k) (hr k (omega arith) .0)
       (λ p x y. finite-bits (tierValue r X k p) (value-finite k p (λ j l. hr j (omega arith)) (offsets-below k q h p x y))))
-      (unfold tierValue in refl) (finite-bits (tierValue r X (suc k) q) (value-finite (suc k) q hr h) .1) (unfold tierValue in (toBits-lt binary64 (apply Average vs) (average-fits vs)))
+      (unfold tierValue in refl) (finite-bits (tierValue r X (suc k) q) (value-finite (suc k) q hr h) .1)
+      (unfold tierValue in (toBits-lt binary64 (apply Average vs) (average-fits vs)))

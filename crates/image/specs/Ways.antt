@@ -11,6 +11,7 @@ use borrow.Author.Tests.{le-leb, lt-leb, leb-true}
 use Rattle.model.specs.declared.Row.{Row}
 use Rattle.model.specs.Bytes.{get}
 use Rattle.model.specs.Image.{first, unless, shape, blank, schemas, rowCount, rows, rowsFrom, rowAt, rowPlace, rowLength, totalLength, imageLength, slabsEnd, placed, slabOf, sound, soundAll, schemaChecks, layoutCheck, planCheck, openCheck}
+use Rattle.laws.specs.Tests.{and-left}
 use Rattle.frame.specs.Checks.{first-zero, unless-zero, Shape, shape-parts}
 use Rattle.frame.specs.Rows.{Place, placed-at, slabsEnd-suc, slabsEnd-le}
 use Rattle.rows.specs.Tests.{and-assoc, and-true}
@@ -62,6 +63,13 @@ module _ (s : List ℕ) where
   pub plan-layout : shape s ≡ true → blank s ≡ true → layoutCheck s ≡ planCheck s
   unfolding planCheck unless
   plan-layout e f = rw (e, f) (sym (first-on _ refl ∙ first-one (layoutCheck s)))
+
+  -- a plan that passed is in shape, and its image is no longer than 2^40
+  pub plan-parts : planCheck s ≡ 0 → (shape s ≡ true) × (imageLength s ≤ 1099511627776)
+  unfolding planCheck
+  plan-parts e =
+      let a = first-zero (unless (shape s && blank s) 1) (layoutCheck s ∷ []) e in
+      (and-left (shape s) (blank s) (unless-zero (shape s && blank s) 0 (a .0)), layout-fits (first-zero (layoutCheck s) [] (a .1) .0))
 
   -- ---- an image
 

@@ -85,7 +85,8 @@ unfolding events
 accepted-calls [] l = unfold samplesIn in tt
 accepted-calls (c ∷ cs) l =
     rw (samples-append (eventsOf l c) (events (call l c .lent) cs))
-    (accepted-append (openCheck (l .image)) (samplesIn (eventsOf l c)) (samplesIn (events (call l c .lent) cs)) (accepted-call l c) (rw (verdict-call l c) at (accepted-calls cs (call l c .lent))))
+    (accepted-append (openCheck (l .image)) (samplesIn (eventsOf l c)) (samplesIn (events (call l c .lent) cs)) (accepted-call l c)
+    (rw (verdict-call l c) at (accepted-calls cs (call l c .lent))))
 
 pub last-low : (n : ℕ) (xs : List Sample) → Accepted n xs → lastOf xs < 2 ^ 63
 unfolding lastOf

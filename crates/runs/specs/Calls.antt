@@ -18,7 +18,9 @@ use Rattle.samples.specs.Lists.{samples-append, samples-took}
 use Rattle.samples.specs.Batch.{AllAt}
 use Rattle.runs.specs.Setup.{Setup, intervalOf, Base, row-in, series-fixed}
 use Rattle.runs.specs.Accepted.{record-zero, batch-zero}
-use Rattle.runs.specs.Live.{Fits, Live, Next, valueOf, AllIn, fed, ran-here}
+use Rattle.runs.specs.Between.{Fits, Between, Next}
+use Rattle.runs.specs.Written.{valueOf, AllIn, written}
+use Rattle.runs.specs.AtRun.{ran-here}
 
 -- ---- the one schema
 
@@ -47,26 +49,27 @@ abbrev Stored : Setup → Lent → ℕ → Lent → List Sample → Type 0
 Stored S l t l' [] = l' ≡ l
 Stored S l t l' (y ∷ ts) = (l' ≡ writeTo l 0 (map valueOf (y ∷ ts)) t) × (t < 2 ^ 63) × AllAt t (y ∷ ts) × AllIn (S .columns) (y ∷ ts)
 
-module _ {S : Setup} {l : Lent} {ys : List Sample} (more : List Event) {e N : ℕ} {b : Bool} (lv : Live S l ys e N b) where
-  abbrev Goes : List Event → Type 0
-  Goes es = scheduled (intervalOf S 0) (S .coarsest) (lastOf ys) b (es ++ more) ≡ true
+module _ {S : Setup} {l : Lent} {ys : List Sample} (more : List Event) {e N : ℕ} {b : Bool} (lv : Between S l ys e N b) where
+  abbrev OnSchedule : List Event → Type 0
+  OnSchedule es = scheduled (intervalOf S 0) (S .coarsest) (lastOf ys) b (es ++ more) ≡ true
 
   -- nothing happened
-  idle : Goes [] → Next S l (ys ++ samplesIn []) more
+  idle : OnSchedule [] → Next S l (ys ++ samplesIn []) more
   unfolding samplesIn
-  idle sch = rw (append-nil ys) (record { e = e; N = N; b = b; live = lv; on-schedule = sch })
+  idle sch = rw (append-nil ys) (record { e = e; N = N; b = b; store = lv; on-schedule = sch })
 
-  stored : (l' : Lent) (t : ℕ) (xs : List Sample) → Stored S l t l' xs → Fits S (ys ++ samplesIn (map took xs ++ more)) → Goes (map took xs)
+  stored : (l' : Lent) (t : ℕ) (xs : List Sample) → Stored S l t l' xs → Fits S (ys ++ samplesIn (map took xs ++ more)) → OnSchedule (map took xs)
       → Next S l' (ys ++ samplesIn (map took xs)) more
   unfolding writeTo
   stored l' t [] w f sch = rw w (idle sch)
   stored l' t (y ∷ ts) w f sch =
       rw (w .0, rowNo-is (lv .base) 0, samples-took (y ∷ ts))
-      (fed lv y ts (samplesIn more) (rw (samples-append (map took (y ∷ ts)) more, samples-took (y ∷ ts)) at f) t (w .2) (w .1) (w .3) more sch)
+      (written lv y ts (samplesIn more) (rw (samples-append (map took (y ∷ ts)) more, samples-took (y ∷ ts)) at f) t (w .2) (w .1) (w .3) more sch)
 
   -- g leaves what the check's number says
   recorded : (n : ℕ) (g : ℕ → Lent) (t : ℕ) (xs : List Sample) → ((i : ℕ) → g (suc i) ≡ l) → (n ≡ 0 → Stored S l t (g 0) xs)
-      → Fits S (ys ++ samplesIn (ifAccepted n (map took xs) ++ more)) → Goes (ifAccepted n (map took xs)) → Next S (g n) (ys ++ samplesIn (ifAccepted n (map took xs))) more
+      → Fits S (ys ++ samplesIn (ifAccepted n (map took xs) ++ more)) → OnSchedule (ifAccepted n (map took xs))
+      → Next S (g n) (ys ++ samplesIn (ifAccepted n (map took xs))) more
   unfolding ifAccepted
   recorded zero g t xs same new f sch = stored (g 0) t xs (new refl) f sch
   recorded (suc n) g t xs same new f sch = rw (same n) (idle sch)
@@ -112,19 +115,23 @@ module _ {S : Setup} {l : Lent} (base : Base S l) where
 
 -- ---- any call
 
-one-call : {S : Setup} {l : Lent} {ys : List Sample} (more : List Event) {e N : ℕ} {b : Bool} → Live S l ys e N b → (c : Call) → Fits S (ys ++ samplesIn (eventsOf l c ++ more))
+one-call : {S : Setup} {l : Lent} {ys : List Sample} (more : List Event) {e N : ℕ} {b : Bool} → Between S l ys e N b → (c : Call)
+    → Fits S (ys ++ samplesIn (eventsOf l c ++ more))
     → scheduled (intervalOf S 0) (S .coarsest) (lastOf ys) b (eventsOf l c ++ more) ≡ true → Next S (call l c .lent) (ys ++ samplesIn (eventsOf l c)) more
 unfolding call eventsOf
 one-call {l = l} more lv (recordCall k c v t) f sch =
-    recorded more lv (recordCheck l k c v t) (λ n. recordOn n l k c v t) t (record { column = c; stamp = t; value = v } ∷ []) (λ i. unfold recordOn in refl) (record-stores (lv .base) k c v t) f sch
+    recorded more lv (recordCheck l k c v t) (λ n. recordOn n l k c v t) t (record { column = c; stamp = t; value = v } ∷ [])
+    (λ i. unfold recordOn in refl) (record-stores (lv .base) k c v t) f sch
 one-call {l = l} more lv (batchCall xs t) f sch =
     let e = map-map took (sampleOf t) xs in
-    rw (← e) (recorded more lv (batchCheck l xs t) (λ n. batchOn n l xs t) t (map (sampleOf t) xs) (λ i. unfold batchOn in refl) (batch-stores (lv .base) xs t) (rw (← e) at f) (rw (← e) at sch))
+    rw (← e)
+    (recorded more lv (batchCheck l xs t) (λ n. batchOn n l xs t) t (map (sampleOf t) xs) (λ i. unfold batchOn in refl)
+    (batch-stores (lv .base) xs t) (rw (← e) at f) (rw (← e) at sch))
 one-call more lv (queryCall k c tier start end) f sch = idle more lv sch
 one-call more lv (autoCall k c start end) f sch = idle more lv sch
 one-call {ys = ys} more lv consolidateCall f sch =
     unfold finished samplesIn in (
-    rw (append-nil ys) (let r = ran-here more lv f sch in record { e = r .e; N = r .N; b = true; live = r .live; on-schedule = r .on-schedule }))
+    rw (append-nil ys) (let r = ran-here more lv f sch in record { e = r .e; N = r .N; b = true; store = r .store; on-schedule = r .on-schedule }))
 
 -- ---- a list of calls
 
@@ -152,10 +159,10 @@ then {S} {l} {ys} rest c es l' go n f =
     let e = append-assoc (eventsOf l c) es rest in
     let g : Fits S (ys ++ samplesIn (eventsOf l c ++ (es ++ rest))) = rw e at f in
     rw (samples-append (eventsOf l c) es, ← append-assoc ys (samplesIn (eventsOf l c)) (samplesIn es))
-    (go (one-call (es ++ rest) (n .live) c g (rw e at (n .on-schedule)))
+    (go (one-call (es ++ rest) (n .store) c g (rw e at (n .on-schedule)))
     (rw (append-assoc ys (samplesIn (eventsOf l c)) (samplesIn (es ++ rest)), ← samples-append (eventsOf l c) (es ++ rest)) g))
 
 pub calls : (cs : List Call) {S : Setup} {l : Lent} {ys : List Sample} (rest : List Event) → Leads S l ys (events l cs) (after l cs) rest
 unfolding events after
-calls [] rest = λ n f. idle rest (n .live) (n .on-schedule)
+calls [] rest = λ n f. idle rest (n .store) (n .on-schedule)
 calls (c ∷ cs) {l = l} rest = then rest c (events (call l c .lent) cs) (after (call l c .lent) cs) (calls cs rest)

@@ -168,7 +168,8 @@ module _ {S : Setup} {l : Lent} (b : Base S l) (k : ℕ) (hk : suc k < tierCount
   full-new : Holds S (result .ring) (suc k) (N' * S .per (suc k))
   unfolding new
   full-new =
-      subst (λ (i : ℕ). Full (result .ring) (S .isUsed) (S .value (suc k)) (slotsOf S (suc k)) (S .columns) i (firstNo S (suc k)) (N' * S .per (suc k))) (sym (S .next-interval k hk))
+      subst (λ (i : ℕ). Full (result .ring) (S .isUsed) (S .value (suc k)) (slotsOf S (suc k)) (S .columns) i (firstNo S (suc k)) (N' * S .per (suc k)))
+      (sym (S .next-interval k hk))
       (rw (sum N N' (S .per (suc k)) up) at (result-is .full))
     where
       sum : (N N' y : ℕ) → N ≤ N' → N * y + (N' - N) * y ≡ N' * y
@@ -242,5 +243,6 @@ module _ {S : Setup} {l : Lent} (b : Base S l) (k : ℕ) (hk : suc k < tierCount
           rw (e, zero-mul (S .per (suc k)), zero-mul (usedBelow (S .isUsed) (S .columns))) (step-unmarked (omega arith))
 
   -- it is not refused
-  pub pair-step : (c : ℕ) → (n : ℕ) × (l' : Lent) × (pair (record { lent = l; count = c; refusal = 0 }) k ≡ record { lent = l'; count = n; refusal = 0 }) × Stepped S l l' k N'
+  pub pair-step : (c : ℕ)
+      → (n : ℕ) × (l' : Lent) × (pair (record { lent = l; count = c; refusal = 0 }) k ≡ record { lent = l'; count = n; refusal = 0 }) × Stepped S l l' k N'
   pair-step c = (c + new * usedBelow (S .isUsed) (S .columns), lent₂, call-is c, stepped)

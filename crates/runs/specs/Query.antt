@@ -90,11 +90,13 @@ module _ {S : Setup} {l : Lent} {N : ℕ} (st : Settled S l N) (top : N ≤ S .m
 
   -- what the reader hands out
   pub answer-is : handedOut (call l (queryCall 0 c k 0 (2 ^ 64 - 1)) .reply)
-      ≡ pts (S .value k c) (intervalOf S k) (firstHeld (slotsOf S k) (firstNo S k) (N * S .per k)) (firstNo S k + N * S .per k - firstHeld (slotsOf S k) (firstNo S k) (N * S .per k))
+      ≡ pts (S .value k c) (intervalOf S k) (firstHeld (slotsOf S k) (firstNo S k) (N * S .per k))
+      (firstNo S k + N * S .per k - firstHeld (slotsOf S k) (firstNo S k) (N * S .per k))
   unfolding call readOr query queryOn answered handedOut
   answer-is =
       rw (check, rowNo-is (st .base) k)
-      (all-points (tier .state) (mul-pos (S .later) (S .some-per k hk)) c (S .value k c) (2 ^ 64 - 1) hc (rw hu at (tier .cols c hc)) (λ q x y. S .number k c q hk hc hu x (below q y)) stamp-low)
+      (all-points (tier .state) (mul-pos (S .later) (S .some-per k hk)) c (S .value k c) (2 ^ 64 - 1) hc (rw hu at (tier .cols c hc))
+      (λ q x y. S .number k c q hk hc hu x (below q y)) stamp-low)
     where
       below : (q : ℕ) → q < firstNo S k + N * S .per k → q < (S .first + S .most) * S .per k
       below q h = omega (arith, mul-le-mul-right (S .per k) top)

@@ -51,7 +51,8 @@ pub record Setup : Type 0 where
   pub span : (k : ℕ) → k < rowCount plan → per k ≤ rowSlots (rowAt plan k)
   pub later : 0 < first
   pub low : (k : ℕ) → k < rowCount plan → (first + most) * coarsest < 2 ^ 63 + rowAt plan k .interval
-  pub number : (k c q : ℕ) → k < rowCount plan → c < columns → isUsed c ≡ true → first * per k ≤ q → q < (first + most) * per k → isNaN (value k c q) ≡ false
+  pub number : (k c q : ℕ) → k < rowCount plan → c < columns → isUsed c ≡ true → first * per k ≤ q → q < (first + most) * per k
+      → isNaN (value k c q) ≡ false
   pub given : (k c q : ℕ) → suc k < rowCount plan → c < columns → isUsed c ≡ true → first * per (suc k) ≤ q → q < (first + most) * per (suc k)
       → Given (answerFor Average (patternsOf (value k c) (q * ratio k) (ratio k))) (value (suc k) c q)
 

@@ -1,0 +1,55 @@
+-- `build::copy_head` meets its contract: what is copied so far and what is left is the whole copy. Assumes nothing.
+use borrow.Author.Needs.{needs}
+use Prim.Native.Nat.{_-_, _≤_}
+use mathlib.Core.Path.{_≡_, refl, sym, _∙_}
+use lib.ListN.{length, take, drop, length-set}
+use Rattle.model.specs.Bytes.{splice}
+use Rattle.build.specs.Made.{copy-on, copy-end}
+use native.Mathlib.Omega.{arith}
+use Rattle.build.proofs.copy_head.Statement.{statement}
+use Rattle.build.proofs.copy_head.Tie as tie
+
+abbrev Inv-loop : tie.InvT-loop
+Inv-loop plan image₀ i₀ image i = (i ≤ 16) × ((length image ≡ length image₀) × (splice image i (take (16 - i) (drop i plan)) ≡ splice image₀ 0 (take 16 plan)))
+
+abbrev μ-loop : tie.MeasureT-loop
+μ-loop plan image₀ i₀ image i = 16 - i
+
+loop-holds : tie.Need-loop-holds Inv-loop μ-loop
+loop-holds c = (search needs, (refl, refl))
+
+shared-slice-read-image : tie.Need-shared-slice-read-image Inv-loop μ-loop
+shared-slice-read-image c = search needs
+
+slice-write-image : tie.Need-slice-write-image Inv-loop μ-loop
+slice-write-image c = search needs
+
+add-i : tie.Need-add-i Inv-loop μ-loop
+add-i c = search needs
+
+loop-less : tie.Need-loop-less Inv-loop μ-loop
+loop-less c = search needs
+
+loop-again : tie.Need-loop-again Inv-loop μ-loop
+loop-again c = let a = c .before .before .before .args in let l = c .before .before .loop in (search needs, (simp length-set (search needs), copy-on (l .image) (a .plan .now) (l .i) (c .before .loop-test .taken) (omega arith) ∙ l .inv .1 .1))
+
+same-length : tie.Need-same-length Inv-loop μ-loop
+same-length c = search needs
+
+returns : tie.Need-returns Inv-loop μ-loop
+returns c = let a = c .before .before .args in let l = c .before .loop in sym (copy-end (l .image) (a .plan .now) (l .i) (c .loop-test .left)) ∙ l .inv .1 .1
+
+pub copy-head-spec : {M : Type 1} → statement M
+copy-head-spec =
+    tie.close
+    (tie.spec
+    Inv-loop
+    μ-loop
+    loop-holds
+    shared-slice-read-image
+    slice-write-image
+    add-i
+    loop-less
+    loop-again
+    same-length
+    returns)

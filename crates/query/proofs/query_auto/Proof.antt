@@ -1,0 +1,38 @@
+-- `query::query_auto` meets its contract: opening's refusal, or what `query_auto_opened` answers. Assumes nothing.
+use mathlib.Core.Path.{sym, ap, _∙_}
+use Rattle.model.specs.Words.{outcomeNo}
+use Rattle.query.proofs.Laws.{auto-not-opened}
+use borrow.Author.Needs.{needs}
+use Rattle.query.proofs.query_auto.Statement.{statement}
+use Rattle.query.proofs.query_auto.Tie as tie
+
+check-image-requires : tie.Need-check-image-requires
+check-image-requires c κs = search needs
+
+enum-known-opened : tie.Need-enum-known-opened
+enum-known-opened c = search needs
+
+returns : tie.Need-returns
+returns c =
+    let a = c .before .before .before .before .before .args in
+    auto-not-opened (a .image .now) (a .flags) (a .handle .schema) (a .handle .column) (a .start) (a .end) (c .before .opened .given .0 .0) (sym (ap outcomeNo (c .before .opened .given .1)) ∙ c .before .before .before .check-image .ensures)
+
+enum-told : tie.Need-enum-told
+enum-told c = search needs
+
+query-auto-opened-requires : tie.Need-query-auto-opened-requires
+query-auto-opened-requires c κs = sym (c .before .before .check-image .ensures) ∙ ap outcomeNo (c .enum-told .given .1)
+
+returns-2 : tie.Need-returns-2
+returns-2 c = search needs
+
+pub query-auto-spec : {M : Type 1} → statement M
+query-auto-spec =
+    tie.close
+    (tie.spec
+    check-image-requires
+    enum-known-opened
+    returns
+    enum-told
+    query-auto-opened-requires
+    returns-2)

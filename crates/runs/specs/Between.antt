@@ -1,0 +1,46 @@
+-- The store between two calls, as the set-up has it: what it holds of the samples so far and of the last run, and that the events to come are on schedule.
+-- Definitions only. Assumes nothing.
+use Prim.Native.Nat.{ℕ, suc, _*_, _≤_, _<_}
+use mathlib.Core.Path.{_≡_}
+use mathlib.Core.Bool.{Bool, true}
+use mathlib.Core.List.{List}
+use Rattle.model.specs.Ring.{cell}
+use Rattle.model.specs.Lent.{Lent, row, ring}
+use Rattle.model.specs.Demand.{Sample, Event, lastOf, count, used, scheduled}
+use Rattle.rings.specs.Column.{Col}
+use Rattle.rings.specs.Hold.{State}
+use Rattle.samples.specs.Lists.{ofColumn, valueAt}
+use Rattle.samples.specs.Ticks.{Steady, Regular, Reached}
+use Rattle.runs.specs.Setup.{Setup, tierCount, intervalOf, slotsOf, firstNo, Tier, markOf, Base}
+
+-- the set-up is that of the samples xs
+pub record Fits (S : Setup) (xs : List Sample) : Type 0 where
+  pub steady : Steady (intervalOf S 0) (firstNo S 0) (S .most * S .per 0) xs
+  pub used-is : (c : ℕ) → S .isUsed c ≡ used c xs
+  pub value-is : (c q : ℕ) → S .value 0 c q ≡ valueAt c (q * intervalOf S 0) xs
+
+-- the columns of a finest ring with the cells C took the samples ys
+abbrev pub Taken : Setup → (ℕ → ℕ → ℕ) → List Sample → Type 0
+Taken S C ys = (x : ℕ) → x < S .columns → Col (C x) (slotsOf S 0) (firstNo S 0) (count (ofColumn x) ys) (S .value 0 x)
+
+-- after the samples ys, which reach tick e; the coarser tiers and all marks have N coarsest intervals; b: a run came last
+pub record Between (S : Setup) (l : Lent) (ys : List Sample) (e N : ℕ) (b : Bool) : Type 0 where
+  pub base : Base S l
+  pub state : State (ring l 0) (slotsOf S 0) (S .columns) (intervalOf S 0) (firstNo S 0) e
+  pub cols : Taken S (cell (ring l 0 .slab)) ys
+  pub tiers : (j : ℕ) → 0 < j → j < tierCount S → Tier S l j N
+  pub marks : (j : ℕ) → suc j < tierCount S → row l j .mark ≡ markOf S j N
+  pub regular : (c : ℕ) → Regular (intervalOf S 0) (firstNo S 0) ys c
+  pub reached : Reached (intervalOf S 0) (firstNo S 0) (S .most * S .per 0) ys e
+  pub low : N * S .per 0 ≤ e
+  pub high : e ≤ suc N * S .per 0
+  pub run-here : b ≡ true → e ≡ N * S .per 0
+  pub known : (c : ℕ) → S .columns ≤ c → count (ofColumn c) ys ≡ 0
+
+-- such a store, where the events to come are on schedule
+pub record Next (S : Setup) (l : Lent) (ys : List Sample) (rest : List Event) : Type 0 where
+  pub e : ℕ
+  pub N : ℕ
+  pub b : Bool
+  pub store : Between S l ys e N b
+  pub on-schedule : scheduled (intervalOf S 0) (S .coarsest) (lastOf ys) b rest ≡ true
