@@ -4,7 +4,6 @@
 use Prim.Native.Nat.{ℕ, _+_, _-_, _*_, _%_, _^_, _≤_, _<_}
 use native.Mathlib.Nat.{mul-assoc, mul-pos, eq-of-mul-eq-mul-right}
 use native.Mathlib.Omega.{arith}
-use native.Mathlib.Decide.{decLt}
 use mathlib.Core.Path.{_≡_, refl, sym, ap, _∙_}
 use mathlib.Core.Bool.{true, false}
 use mathlib.Core.List.{List, [], _∷_, _++_, append-nil}
@@ -28,7 +27,7 @@ use Rattle.samples.specs.Supposed.{Parts, parts, steady, Spans, spans}
 use Rattle.samples.specs.Suited.{Suited}
 use Rattle.mean.specs.Exact.{aboves, belows}
 use Rattle.runs.specs.Setup.{Setup, end-stamp}
-use Rattle.runs.specs.Between.{Fits, Next}
+use Rattle.runs.specs.Between.{Fits, column-in, Next}
 use Rattle.runs.specs.AtRun.{RanOn, ran-here}
 use Rattle.runs.specs.Accepted.{Accepted, accepted-calls, last-low, some-opens}
 use Rattle.runs.specs.Calls.{after-append, calls}
@@ -158,14 +157,9 @@ module _ {p : List ℕ} {l : Lent} {before : List Call} (s : Story p l before) w
   -- ---- the query of column c at tier k
 
   module _ (c k : ℕ) (hk : k < rowCount p) (hu : used c (samplesOf p l before) ≡ true) where
-    -- a used column is one of the store's
-    column-in : c < S .columns
+    here-too : c < S .columns
     unfolding used
-    column-in = go (decLt c (S .columns))
-      where
-        go : Dec (c < S .columns) → c < S .columns
-        go (yes h) = h
-        go (no h) = absurd (omega (arith, lt-is 0 (count (ofColumn c) xs) hu, done .store .known c (omega arith)))
+    here-too = column-in (done .store) c (lt-is 0 (count (ofColumn c) xs) hu)
 
     abbrev i : ℕ
     i = rowAt p k .interval
@@ -182,7 +176,7 @@ module _ {p : List ℕ} {l : Lent} {before : List Call} (s : Story p l before) w
 
     points-are : handedOut (call (leftBy p l before) (queryCall 0 c k 0 (2 ^ 64 - 1)) .reply) ≡ pts (tierValue (ratio p) X k) i first (A * m + Z * m - first)
     unfolding S setting supplied
-    points-are = rw last-run at (answer-is (done .settled) (omega (arith, last-run)) c k column-in hu hk)
+    points-are = rw last-run at (answer-is (done .settled) (omega (arith, last-run)) c k here-too hu hk)
 
     -- number q's value against the samples of its window
     near : (q : ℕ) → A * m ≤ q → q < (A + Z) * m

@@ -19,7 +19,7 @@ use Rattle.samples.specs.Ticks.{complete}
 use Rattle.samples.specs.Schedule.{ran-on, none-at-run, WholeRun, at-run}
 use Rattle.runs.specs.Setup.{Setup, tierCount, intervalOf, firstNo, Tier}
 use Rattle.runs.specs.Run.{Settled, run-is}
-use Rattle.runs.specs.Between.{Fits, Between}
+use Rattle.runs.specs.Between.{column-in, Fits, Between}
 
 asc-after : (p : ℕ) (y : Sample) (ys zs : List Sample) → ascending p ((y ∷ ys) ++ zs) ≡ true → ascending (lastOf (y ∷ ys)) zs ≡ true
 unfolding ascending lastOf
@@ -106,15 +106,11 @@ module _ {S : Setup} {l : Lent} {ys : List Sample} (rest : List Event) {e N : �
       us : (c : ℕ) → 0 < count (ofColumn c) ys → S .isUsed c ≡ true
       us c h = f .used-is c ∙ unfold used in (yes-lt 0 (count (λ x. eqb (x .column) c) (ys ++ samplesIn rest)) (omega (arith, count-append (ofColumn c) ys (samplesIn rest))))
 
-      low-column : (c : ℕ) → 0 < count (ofColumn c) ys → Dec (c < S .columns) → c < S .columns
-      low-column c h (yes q) = q
-      low-column c h (no q) = absurd (omega (arith, lv .known c (omega arith)))
-
       go : (w : List Sample) → ys ≡ w → 0 < usedBelow (S .isUsed) (S .columns)
       go [] p = absurd (none p)
       go (y ∷ w) p =
           let o : 0 < count (ofColumn (y .column)) ys = rw p (unfold count in (rw (yes-eq (y .column)) (omega arith))) in
-          one-used (S .isUsed) (S .columns) (y .column) (low-column (y .column) o (decLt (y .column) (S .columns))) (us (y .column) o)
+          one-used (S .isUsed) (S .columns) (y .column) (column-in lv (y .column) o) (us (y .column) o)
 
   pub ran-here : RanOn S (run l) ys rest
   ran-here =

@@ -1,6 +1,8 @@
 -- The store between two calls, as the set-up has it: what it holds of the samples so far and of the last run, and that the events to come are on schedule.
--- Definitions only. Assumes nothing.
+-- Assumes nothing.
 use Prim.Native.Nat.{ℕ, suc, _*_, _≤_, _<_}
+use native.Mathlib.Omega.{arith}
+use native.Mathlib.Decide.{decLt}
 use mathlib.Core.Path.{_≡_}
 use mathlib.Core.Bool.{Bool, true}
 use mathlib.Core.List.{List}
@@ -23,7 +25,8 @@ pub record Fits (S : Setup) (xs : List Sample) : Type 0 where
 abbrev pub Taken : Setup → (ℕ → ℕ → ℕ) → List Sample → Type 0
 Taken S C ys = (x : ℕ) → x < S .columns → Col (C x) (slotsOf S 0) (firstNo S 0) (count (ofColumn x) ys) (S .value 0 x)
 
--- after the samples ys, which reach tick e; the coarser tiers and all marks have N coarsest intervals; b: a run came last
+-- after the samples ys, which reach tick e; the coarser tiers and all marks have N coarsest intervals; b: a run came last. The finest ring took e ticks, each
+-- column its own samples, at its first ticks; at the most one coarsest interval of ticks came since the last run; no sample is of a column past the last
 pub record Between (S : Setup) (l : Lent) (ys : List Sample) (e N : ℕ) (b : Bool) : Type 0 where
   pub base : Base S l
   pub state : State (ring l 0) (slotsOf S 0) (S .columns) (intervalOf S 0) (firstNo S 0) e
@@ -36,6 +39,14 @@ pub record Between (S : Setup) (l : Lent) (ys : List Sample) (e N : ℕ) (b : Bo
   pub high : e ≤ suc N * S .per 0
   pub run-here : b ≡ true → e ≡ N * S .per 0
   pub known : (c : ℕ) → S .columns ≤ c → count (ofColumn c) ys ≡ 0
+
+-- a column with a sample is one of the store's
+pub column-in : {S : Setup} {l : Lent} {ys : List Sample} {e N : ℕ} {b : Bool} → Between S l ys e N b → (c : ℕ) → 0 < count (ofColumn c) ys → c < S .columns
+column-in {S} {l} {ys} h c z = go (decLt c (S .columns))
+  where
+    go : Dec (c < S .columns) → c < S .columns
+    go (yes p) = p
+    go (no p) = absurd (omega (arith, h .known c (omega arith)))
 
 -- such a store, where the events to come are on schedule
 pub record Next (S : Setup) (l : Lent) (ys : List Sample) (rest : List Event) : Type 0 where

@@ -1,0 +1,126 @@
+-- The theorem's supposition is not stronger than it must be: for each of its clauses a list of calls that breaks that clause alone, and where the promise
+-- fails; and a plan that breaks one clause of `suited`, likewise. (A first stamp of 0 is no case: no sample has it.) By computation. Assumes nothing.
+use Prim.Native.Nat.{ℕ, zero, suc, _%_}
+use mathlib.Core.Path.{_≡_, refl, sym}
+use mathlib.Core.Bool.{Bool, true, false, _&&_, and-false}
+use mathlib.Core.List.{List, [], _∷_, map}
+use lib.Dec.{ltb, eqb}
+use lib.ListN.{replicate, take}
+use Rattle.model.specs.declared.Row.{Row}
+use Rattle.model.specs.Image.{rows}
+use Rattle.model.specs.Store.{Call, recordCall, consolidateCall}
+use Rattle.model.specs.Demand.{Demand-defs, Sample, samplesIn, firstOf, ascending, all, isOffset, gapless, ticks, scheduled, supposed, each, suited, Situation, finest, coarsest, history, samples, answers, tierInterval, due}
+use Rattle.model.specs.Cases.{Cases-defs, tier, plan, num}
+use Rattle.model.specs.Instance.{both}
+
+-- the clauses of `supposed` behind the first
+unfoldable pub clauses : Situation → List Bool
+clauses s =
+    let es = history s in
+    let xs = samplesIn es in
+    let d = finest s in
+    eqb (firstOf xs % coarsest s) 0 ∷ ascending 0 xs ∷ all (λ x. isOffset (x .value)) xs ∷ all (λ x. eqb (x .stamp % d) 0) xs
+    ∷ all (λ x. gapless (x .column) d (firstOf xs) (ticks d xs) xs) xs ∷ scheduled d (coarsest s) 0 false es ∷ []
+
+unfoldable pub conj : List Bool → Bool
+conj [] = true
+conj (b ∷ bs) = b && conj bs
+
+-- ---- they are the whole of it
+
+all-three : (f g h : Sample → Bool) (xs : List Sample) → all (λ x. f x && g x && h x) xs ≡ all f xs && all g xs && all h xs
+unfolding all
+all-three f g h [] = refl
+all-three f g h (x ∷ xs) = rw (all-three f g h xs) (swap (f x) (g x) (h x) (all f xs) (all g xs) (all h xs))
+  where
+    swap : (a b c A B C : Bool) → a && b && c && (A && B && C) ≡ (a && A) && (b && B) && (c && C)
+    swap true true true A B C = refl
+    swap true true false A B C = sym (and-false (A && B))
+    swap true false c true B C = refl
+    swap true false c false B C = refl
+    swap false b c A B C = refl
+
+pub supposed-is : (s : Situation) → supposed (finest s) (coarsest s) (history s) ≡ ltb 0 (firstOf (samplesIn (history s))) && conj (clauses s)
+unfolding supposed clauses conj
+supposed-is s =
+    let xs = samplesIn (history s) in
+    let d = finest s in
+    let f : Sample → Bool = λ x. isOffset (x .value) in
+    let g : Sample → Bool = λ x. eqb (x .stamp % d) 0 in
+    let h : Sample → Bool = λ x. gapless (x .column) d (firstOf xs) (ticks d xs) xs in
+    rw (all-three f g h xs)
+    (nest (ltb 0 (firstOf xs)) (eqb (firstOf xs % coarsest s) 0) (ascending 0 xs) (all f xs) (all g xs) (all h xs) (scheduled d (coarsest s) 0 false (history s)))
+  where
+    nest : (a b c x y z e : Bool) → a && b && c && (x && y && z) && e ≡ a && (b && (c && (x && (y && (z && (e && true))))))
+    nest false b c x y z e = refl
+    nest true false c x y z e = refl
+    nest true true false x y z e = refl
+    nest true true true false y z e = refl
+    nest true true true true false z e = refl
+    nest true true true true true false e = refl
+    nest true true true true true true true = refl
+    nest true true true true true true false = refl
+
+-- ---- lists and plans that break one of them
+
+-- the promise
+unfoldable pub kept : Situation → Bool
+kept s = each (s .column) (tierInterval s) (s .tier) (samples s) (due s) (answers s)
+
+-- column 1 at tier k, on these tiers
+unfoldable pub on : List Row → List Call → ℕ → Situation
+on rs cs k = record { plan = plan rs; buf = replicate 800 9; flags = replicate 32 true; before = cs; between = []; column = 1; tier = k }
+
+-- 10 and 20 ns, two slots each
+unfoldable pub two : List Row
+two = tier 0 10 20 0 ∷ tier 1 20 40 1 ∷ []
+
+-- all clauses but the n-th
+unfoldable pub allBut : ℕ → List Bool
+allBut zero = false ∷ replicate 5 true
+allBut (suc n) = true ∷ take 5 (allBut n)
+
+-- ---- the lists
+
+-- the first stamp is not a multiple of the coarsest interval; stamps fall; NaN; a stamp between ticks; a tick without a sample; an interval without its run
+unfoldable pub broken : List Situation
+broken =
+    on two (both 30 (num 1) (num 2) ∷ []) 1
+    ∷ on two (recordCall 0 0 (num 2) 20 ∷ recordCall 0 0 (num 2) 30 ∷ consolidateCall ∷ recordCall 0 0 (num 2) 40 ∷ recordCall 0 1 (num 1) 20 ∷ recordCall 0 1 (num 1) 30
+    ∷ consolidateCall ∷ recordCall 0 1 (num 1) 40 ∷ both 50 (num 1) (num 2) ∷ []) 1
+    ∷ on two (both 20 (num 1) (num 2) ∷ both 30 0x7ff8_0000_0000_0000 (num 2) ∷ []) 0
+    ∷ on two (both 20 (num 1) (num 2) ∷ recordCall 0 1 (num 1) 25 ∷ both 30 (num 1) (num 2) ∷ []) 0
+    ∷ on two (recordCall 0 0 (num 2) 20 ∷ both 30 (num 1) (num 2) ∷ []) 0
+    ∷ on two (both 20 (num 1) (num 2) ∷ both 30 (num 1) (num 2) ∷ both 40 (num 1) (num 2) ∷ both 50 (num 1) (num 2) ∷ []) 1 ∷ []
+
+-- ---- the plans: a ratio that is not whole; a tier that takes the least; a ring that does not span the coarsest interval
+unfoldable pub unsuited : List Situation
+unsuited =
+    on (tier 0 10 60 0 ∷ tier 1 15 60 1 ∷ tier 2 30 60 1 ∷ []) (both 30 (num 0) (num 2) ∷ both 40 (num 0) (num 2) ∷ both 50 (num 3) (num 2) ∷ []) 2
+    ∷ on (tier 0 10 20 0 ∷ tier 1 20 20 2 ∷ []) (both 20 (num 1) (num 2) ∷ both 30 (num 3) (num 2) ∷ []) 1
+    ∷ on (tier 0 10 20 0 ∷ tier 1 40 40 1 ∷ []) (both 40 (num 0) (num 2) ∷ both 50 (num 0) (num 2) ∷ both 60 (num 4) (num 2) ∷ both 70 (num 4) (num 2) ∷ []) 1 ∷ []
+
+unfoldable Needed-defs : Unit {0}
+unfolding Cases-defs Demand-defs both clauses kept on two allBut broken unsuited
+Needed-defs = tt
+
+-- each breaks its own clause alone
+pub one-clause : map clauses broken ≡ map allBut (0 ∷ 1 ∷ 2 ∷ 3 ∷ 4 ∷ 5 ∷ [])
+unfolding Needed-defs
+one-clause = refl
+
+pub promise-fails : map kept broken ≡ replicate 6 false
+unfolding Needed-defs
+promise-fails = refl
+
+pub no-clause : map clauses unsuited ≡ replicate 3 (replicate 6 true)
+unfolding Needed-defs
+no-clause = refl
+
+pub not-suited : map (λ (s : Situation). suited (rows (s .plan))) unsuited ≡ replicate 3 false
+unfolding Needed-defs
+not-suited = refl
+
+pub promise-fails-too : map kept unsuited ≡ replicate 3 false
+unfolding Needed-defs
+promise-fails-too = refl
