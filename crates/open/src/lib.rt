@@ -1,0 +1,76 @@
+// Opening by value: the image's checks, then the first R flags worked out as `RingBuffer::new` sets them. Later flags stay; a refusal changes nothing.
+ghost use mathlib.Core.Path.{_≡_};
+ghost use mathlib.Core.List.{_++_};
+ghost use Prim.Native.Nat.{_+_, _*_, _≤_};
+ghost use lib.ListN.{drop};
+ghost use Rattle.model.specs.Words.{outcomeNo};
+ghost use Rattle.model.specs.Bytes.{get};
+ghost use Rattle.model.specs.Image.{openCheck};
+ghost use Rattle.model.specs.Ring.{wrapFlag};
+ghost use Rattle.model.specs.Lent.{wrapFlags, opening};
+ghost use Rattle.ring.specs.Parts.{Sized};
+ghost use Rattle.rows.specs.Rows.{rowsTo};
+ghost use Rattle.image.specs.Lent.{lent};
+
+// Opening's answer, and the flags as it leaves them.
+pub struct Opened {
+    pub outcome: model::Outcome,
+    pub flags: model::Flags,
+}
+
+// The flag of a slab with n slots and m series.
+pub fn wrap_flag(slab: &[u8], n: usize, m: usize) -> bool
+    requires { ⌜ Sized (now slab) n m ⌝ }
+    ensures { λ r. ⌜ r ≡ wrapFlag (now (slab .entry)) ⌝ }
+{
+    let cursor = ring::cursor_of(slab, n, m);
+    if cursor != 0 {
+        let next = ring::next_slot(n, cursor);
+        let after = ring::stamp_of(slab, n, m, next);
+        return after != 0;
+    }
+    if n <= 1 {
+        return false;
+    }
+    let second = ring::stamp_of(slab, n, m, 1);
+    second != 0
+}
+
+// The first n flags worked out.
+fn flags_of(s: &[u8], n: usize, wrapped: [bool; 32]) -> model::Flags
+    requires { ⌜ (openCheck (now s) ≡ 0) × (n ≡ get 4 (now s) 12) ⌝ }
+    ensures { λ r. ⌜ r .wrapped ≡ wrapFlags (now (s .entry)) (rowsTo (now (s .entry)) n 0) ++ drop n wrapped ⌝ }
+{
+    let mut next = wrapped;
+    let mut i = 0;
+    while i < n {
+        let r = rows::row_at(s, i);
+        let offset = r.offset as usize;
+        let end = offset + (r.len as usize);
+        let slots = layout::row_slots(r) as usize;
+        let flag = wrap_flag(&s[offset..end], slots, r.series as usize);
+        next[i] = flag;
+        i += 1;
+    }
+    model::Flags { wrapped: next }
+}
+
+// An image in a lent slice, with flags by value.
+pub fn open(image: &[u8], flags: model::Flags) -> Opened
+    ensures { λ r. ⌜ (outcomeNo (r .outcome) ≡ openCheck (now (image .entry))) × (lent (now (image .entry)) (r .flags) ≡ opening (lent (now (image .entry)) flags)) ⌝ }
+{
+    let checked = image::check_image(image);
+    let model::Outcome::Accepted = checked else {
+        return Opened {
+            outcome: checked,
+            flags: flags,
+        };
+    };
+    let n = field::get_u32(image, 12) as usize;
+    let wrapped = flags.wrapped;
+    let next = flags_of(image, n, wrapped);
+    Opened {
+        outcome: checked,
+        flags: next,
+    }
+}
