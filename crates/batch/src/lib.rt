@@ -76,31 +76,31 @@ fn batch_opened(image: &mut [u8], flags: model::Flags, batch: &[u8], stamp: u64)
             flags: flags,
         };
     }
-    let handles = entries::handles_ok(image, batch);
-    if handles {
-        let in_time = record::stamp_ok(stamp);
-        if in_time {
-            let values = entries::values_ok(batch);
-            if values {
-                let next = store_schemas(image, flags, batch, stamp);
-                return record::Recorded {
-                    outcome: model::Outcome::Accepted,
-                    flags: next,
-                };
-            }
-            return record::Recorded {
-                outcome: model::Outcome::Refused(model::Refusal::InvalidValue),
-                flags: flags,
-            };
-        }
+    let outside = entries::any_outside(image, batch);
+    if outside {
+        return record::Recorded {
+            outcome: model::Outcome::Refused(model::Refusal::InvalidHandle),
+            flags: flags,
+        };
+    }
+    let bad = record::is_bad_stamp(stamp);
+    let infinite = entries::any_infinite(batch);
+    if bad {
         return record::Recorded {
             outcome: model::Outcome::Refused(model::Refusal::InvalidTimestamp),
             flags: flags,
         };
     }
+    if infinite {
+        return record::Recorded {
+            outcome: model::Outcome::Refused(model::Refusal::InvalidValue),
+            flags: flags,
+        };
+    }
+    let next = store_schemas(image, flags, batch, stamp);
     record::Recorded {
-        outcome: model::Outcome::Refused(model::Refusal::InvalidHandle),
-        flags: flags,
+        outcome: model::Outcome::Accepted,
+        flags: next,
     }
 }
 

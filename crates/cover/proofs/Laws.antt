@@ -1,23 +1,21 @@
 -- The part of an image that a row names is its slab; the count of a schema's tiers and the choice of a tier, one turn at a time. Assumes nothing.
-use Prim.Native.Nat.{ℕ, zero, suc, _+_, _-_, _*_, _≤_, _<_}
-use native.Mathlib.Nat.{add-suc, add-zero}
+use Prim.Native.Nat.{ℕ, suc, _+_, _-_, _≤_, _<_}
 use native.Mathlib.Numerals.{add-one}
 use native.Mathlib.Omega.{arith}
-use mathlib.Core.Path.{_≡_, refl, sym, ap, _∙_}
+use mathlib.Core.Path.{_≡_, sym, ap, _∙_}
 use mathlib.Core.Bool.{Bool, true, false, cond}
 use mathlib.Core.List.{List}
 use lib.Dec.{eqb}
 use lib.ListN.{length, take, drop, getD}
 use Rattle.model.specs.declared.End.{End}
 use Rattle.model.specs.declared.Flags.{Flags}
-use Rattle.model.specs.declared.Found.{Found}
 use Rattle.model.specs.declared.Place.{Place}
 use Rattle.model.specs.declared.Queried.the-variants.{Answer}
 use Rattle.model.specs.Bytes.{get, part}
 use Rattle.model.specs.Image.{rowPlace, rowAt, rowsFrom, rows, rowCount, keepRow, tiersOf, slabOf, openCheck}
-use Rattle.model.specs.Ring.{Ring, firstPlace, oldest, newest}
+use Rattle.model.specs.Ring.{firstPlace, oldest, newest}
 use Rattle.model.specs.Read.{full, incomplete, bothEnds}
-use Rattle.model.specs.Lent.{Lent, ring, row, rowNo, firstRow, tiers}
+use Rattle.model.specs.Lent.{Lent, ring, row, rowNo, firstRow}
 use Rattle.model.specs.Query.{chooseFrom, readerOn, answered, repliedBy, found}
 use Rattle.ring.specs.Parts.{Sized, sized, ringOf}
 use Rattle.lent.specs.Parts.{SlabAt, lentOf}

@@ -7,7 +7,7 @@ ghost use Rattle.model.specs.declared.Queried.the-variants.{Answer};
 ghost use Rattle.model.specs.Image.{rowCount, rows, tiersOf, openCheck};
 ghost use Rattle.model.specs.Ring.{oldest, newest};
 ghost use Rattle.model.specs.Lent.{firstRow, ring};
-ghost use Rattle.model.specs.Query.{chooseFrom, choose, answered, repliedBy, found};
+ghost use Rattle.model.specs.Query.{choose, answered, repliedBy, found};
 ghost use Rattle.lent.specs.Parts.{lentOf};
 
 // The ends of a ring.

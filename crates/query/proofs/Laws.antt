@@ -1,6 +1,6 @@
 -- The outcome of `query` and of `query_auto`, one law a way: opening's refusal, 11, 14, 15, the answer. Assumes nothing.
 use Prim.Native.Nat.{ℕ, zero, suc, _+_, _≤_, _<_}
-use mathlib.Core.Path.{_≡_, refl, sym, _∙_}
+use mathlib.Core.Path.{_≡_, sym, _∙_}
 use mathlib.Core.Bool.{true}
 use mathlib.Core.List.{List}
 use lib.ListN.{length}
@@ -12,7 +12,7 @@ use Rattle.model.specs.Words.{numberOf}
 use Rattle.model.specs.Image.{unless, first, rows, tiersOf, openCheck}
 use Rattle.model.specs.Lent.{Lent, tiers, firstRow, rowNo}
 use Rattle.model.specs.Record.{handleOk}
-use Rattle.model.specs.Query.{QueryReply, notFound, found, queryCheck, autoCheck, choose, answered, queryOn, query, queryAuto, repliedBy}
+use Rattle.model.specs.Query.{QueryReply, found, queryCheck, autoCheck, choose, answered, queryOn, query, queryAuto, repliedBy}
 use Rattle.laws.specs.Tests.{yes-lt, no-lt}
 use Rattle.frame.specs.Good.{good-open}
 use Rattle.frame.specs.Tiers.{some-tier}

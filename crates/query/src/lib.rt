@@ -26,12 +26,12 @@ fn query_opened(
     if (tier as usize) >= count {
         return model::Queried::Refused(model::Refusal::InvalidTier);
     }
-    if start >= end {
-        return model::Queried::Refused(model::Refusal::InvalidTimeRange);
+    if start < end {
+        let row = first + (tier as usize);
+        let found = cover::answer(image, flags, row, column, tier, start, end);
+        return model::Queried::Answer(found);
     }
-    let row = first + (tier as usize);
-    let found = cover::answer(image, flags, row, column, tier, start, end);
-    model::Queried::Answer(found)
+    model::Queried::Refused(model::Refusal::InvalidTimeRange)
 }
 
 // Queries the tier that covers the range best, once opening's check has passed.

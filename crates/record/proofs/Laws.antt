@@ -1,12 +1,13 @@
 -- A slab that was lent on and written is the model's write to its ring; the outcome of `record`, one law a way. Assumes nothing.
-use Prim.Native.Nat.{ℕ, zero, suc, _+_, _-_, _≤_, _<_}
+use Prim.Native.Nat.{ℕ, zero, suc, _+_, _-_, _^_, _≤_, _<_}
 use native.Mathlib.Nat.{add-zero}
 use native.Mathlib.Omega.{arith}
+use native.Mathlib.Decide.{decLt}
 use mathlib.Core.Path.{_≡_, refl, sym, ap, _∙_}
 use mathlib.Core.Logic.{_≢_}
 use mathlib.Core.Bool.{Bool, true, false, not, _&&_, cond}
 use mathlib.Core.List.{List, [], _∷_}
-use lib.Dec.{ltb}
+use lib.Dec.{leb, ltb}
 use lib.ListN.{length, getD}
 use borrow.Rule.Slice.PartMut.{putMid, midOf}
 use Rattle.model.specs.declared.Row.{Row}
@@ -16,7 +17,7 @@ use Rattle.model.specs.Image.{unless, first, schemas, rowCount, rowAt, rows, ti
 use Rattle.model.specs.Ring.{Ring, ColumnValue, write, isInfinite}
 use Rattle.model.specs.Lent.{Lent, row, ring, withRing, tiers, firstRow, rowNo}
 use Rattle.model.specs.Record.{seriesOf, handleOk, stampOk, writeTo, recordCheck, recordOn}
-use Rattle.laws.specs.Tests.{lt-is, and-left, and-right}
+use Rattle.laws.specs.Tests.{yes-le, yes-lt, no-le, no-lt}
 use Rattle.laws.specs.Bytes.{lent-splice}
 use Rattle.rings.specs.Sound.{Sound}
 use Rattle.ring.specs.Parts.{ringOf, one}
@@ -25,6 +26,17 @@ use Rattle.lent.specs.declared.Finest.{Finest}
 use Rattle.lent.specs.declared.Finest.the-variants.{At, Missing}
 use Rattle.lent.specs.Handle.{handle-none, handle-at}
 use Rattle.record.specs.Done.{RecordDone}
+
+-- ---- the stamp
+
+-- a stamp above 0 is refused from 2^63 on
+pub bad-stamp : (t : ℕ) → t ≢ 0 → leb (2 ^ 63) t ≡ not (stampOk t)
+unfolding stampOk
+bad-stamp t z = go (decLt t (2 ^ 63))
+  where
+    go : Dec (t < 2 ^ 63) → leb (2 ^ 63) t ≡ not (ltb 0 t && ltb t (2 ^ 63))
+    go (yes p) = rw (no-le (2 ^ 63) t p, yes-lt 0 t (omega arith), yes-lt t (2 ^ 63) p)
+    go (no p) = rw (yes-le (2 ^ 63) t (omega arith), yes-lt 0 t (omega arith), no-lt t (2 ^ 63) (omega arith))
 
 -- ---- the slab lent on
 

@@ -1,6 +1,7 @@
 // `record` by value: opening's order on every call, then 11, 12, 13, then the write to the schema's finest ring (Rust's `Store::record`). The row's slab is
 // lent on as a part of the image; other slabs' bytes, other rows' flags and the surplus stay.
 ghost use mathlib.Core.Path.{_≡_};
+ghost use mathlib.Core.Bool.{not};
 ghost use Prim.Native.Nat.{_<_};
 ghost use Rattle.model.specs.Words.{outcomeNo};
 ghost use Rattle.model.specs.Image.{rowCount, rowAt, openCheck};
@@ -17,11 +18,11 @@ pub struct Recorded {
     pub flags: model::Flags,
 }
 
-// A stamp that may be recorded: not 0, and below 2^63.
-pub fn stamp_ok(stamp: u64) -> bool
-    ensures { λ r. ⌜ r ≡ stampOk stamp ⌝ }
+// A stamp that is refused: 0, or 2^63 and above.
+pub fn is_bad_stamp(stamp: u64) -> bool
+    ensures { λ r. ⌜ r ≡ not (stampOk stamp) ⌝ }
 {
-    0 < stamp && stamp < 0x8000_0000_0000_0000
+    stamp == 0 || stamp >= 0x8000_0000_0000_0000
 }
 
 // Stores one value in a row's ring. Answers the flags.
@@ -77,23 +78,23 @@ fn record_opened(
         };
     };
     let infinite = field::is_infinite(value);
+    let bad = is_bad_stamp(stamp);
     if infinite {
         return Recorded {
             outcome: model::Outcome::Refused(model::Refusal::InvalidValue),
             flags: flags,
         };
     }
-    let in_time = stamp_ok(stamp);
-    if in_time {
-        let next = store(image, flags, row, column as usize, value, stamp);
+    if bad {
         return Recorded {
-            outcome: model::Outcome::Accepted,
-            flags: next,
+            outcome: model::Outcome::Refused(model::Refusal::InvalidTimestamp),
+            flags: flags,
         };
     }
+    let next = store(image, flags, row, column as usize, value, stamp);
     Recorded {
-        outcome: model::Outcome::Refused(model::Refusal::InvalidTimestamp),
-        flags: flags,
+        outcome: model::Outcome::Accepted,
+        flags: next,
     }
 }
 

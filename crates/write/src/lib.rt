@@ -2,8 +2,10 @@
 // cursor, and answer the flag. A slab is lent as its own slice and stays in good order (`Sound`).
 ghost use mathlib.Core.Path.{_≡_};
 ghost use mathlib.Core.Bool.{_||_};
-ghost use Prim.Native.Nat.{_<_};
+ghost use Prim.Native.Nat.{_<_, _≤_};
 ghost use lib.Dec.{ltb};
+ghost use lib.ListN.{length};
+ghost use Rattle.model.specs.Bytes.{put};
 ghost use Rattle.model.specs.Ring.{interval, putCells, write};
 ghost use Rattle.model.specs.Record.{entries, entriesOf};
 ghost use Rattle.rings.specs.Sound.{Sound};
@@ -81,6 +83,14 @@ fn write_cells(slab: &mut [u8], n: usize, m: usize, slot: usize, batch: &[u8], s
     }
 }
 
+// Moves the cursor to a slot: it always moves, since a slot below it sets the flag.
+fn write_cursor(slab: &mut [u8], slot: usize)
+    requires { ⌜ 64 ≤ length (now slab) ⌝ }
+    ensures { λ _. ⌜ now (slab .exit) ≡ put 4 (now (slab .entry)) 32 slot ⌝ }
+{
+    field::put_u32(slab, 32, slot as u64);
+}
+
 // Stores one value: stamp, cell, cursor. Answers the flag.
 pub fn write(
     slab: &mut [u8],
@@ -99,7 +109,7 @@ pub fn write(
     let t = write_stamp(slab, n, m, interval, stamp, wrapped);
     let slot = t.slot;
     write_cell(slab, n, m, column, slot, value);
-    field::put_u32(slab, 32, slot as u64);
+    write_cursor(slab, slot);
     t.wrapped
 }
 
@@ -121,6 +131,6 @@ pub fn write_batch(
     let t = write_stamp(slab, n, m, interval, stamp, wrapped);
     let slot = t.slot;
     write_cells(slab, n, m, slot, batch, schema);
-    field::put_u32(slab, 32, slot as u64);
+    write_cursor(slab, slot);
     t.wrapped
 }

@@ -5,72 +5,79 @@ use mathlib.Core.Logic.{_≢_}
 use lib.ListN.{length}
 use Rattle.model.specs.Record.{entries}
 use Rattle.lent.specs.Parts.{lentOf}
+use Rattle.record.specs.Numbers.{fails, passes}
 use Rattle.batch.proofs.Laws.{length-entries, empty-batch, refused-handle, refused-stamp, refused-value, recorded}
 use borrow.Author.Needs.{needs}
 use Rattle.batch.proofs.batch_opened.Statement.{statement}
 use Rattle.batch.proofs.batch_opened.Tie as tie
 
 returns : tie.Need-returns
-returns c = empty-batch (lentOf (c .before .before .before .args .image .now) (c .before .before .before .args .flags)) (c .before .before .before .args .stamp) (c .before .before .before .pre) (entries (c .before .before .before .args .batch .now)) (omega (arith, length-entries (c .before .before .before .args .batch .now)))
+returns c =
+    let start = c .before .before .before in
+    empty-batch (lentOf (start .args .image .now) (start .args .flags)) (start .args .stamp) (start .pre) (entries (start .args .batch .now)) (omega (arith, length-entries (start .args .batch .now)))
 
-handles-ok-requires : tie.Need-handles-ok-requires
-handles-ok-requires c κs = search needs
-
-stamp-ok-requires : tie.Need-stamp-ok-requires
-stamp-ok-requires c κs = search needs
-
-values-ok-requires : tie.Need-values-ok-requires
-values-ok-requires c κs = search needs
-
-store-schemas-requires : tie.Need-store-schemas-requires
-store-schemas-requires c κs = (c .before .before .before .before .before .before .before .before .before .before .before .pre, sym (c .before .before .before .before .before .before .handles-ok .ensures) ∙ c .before .before .before .before .before .if2 .taken)
+any-outside-requires : tie.Need-any-outside-requires
+any-outside-requires c κs = search needs
 
 same-length : tie.Need-same-length
 same-length c = search needs
 
 returns-2 : tie.Need-returns-2
 returns-2 c =
-    let z : length (entries (c .before .before .before .before .before .before .before .before .before .before .before .before .before .before .args .batch .now)) ≢ 0 = λ e. omega (arith, length-entries (c .before .before .before .before .before .before .before .before .before .before .before .before .before .before .args .batch .now)) in
-    recorded (lentOf (c .before .before .before .before .before .before .before .before .before .before .before .before .before .before .args .image .now) (c .before .before .before .before .before .before .before .before .before .before .before .before .before .before .args .flags)) (c .before .before .before .before .before .before .before .before .before .before .before .before .before .before .args .stamp) (c .before .before .before .before .before .before .before .before .before .before .before .before .before .before .pre) (entries (c .before .before .before .before .before .before .before .before .before .before .before .before .before .before .args .batch .now)) z (sym (c .before .before .before .before .before .before .before .before .before .handles-ok .ensures) ∙ c .before .before .before .before .before .before .before .before .if2 .taken) (sym (c .before .before .before .before .before .before .before .stamp-ok .ensures) ∙ c .before .before .before .before .before .before .if3 .taken) (sym (c .before .before .before .before .before .values-ok .ensures) ∙ c .before .before .before .before .if4 .taken) (c .before .before .store-schemas .ensures)
+    let start = c .before .before .before .before .before .before in
+    let z : length (entries (start .args .batch .now)) ≢ 0 = λ e. omega (arith, length-entries (start .args .batch .now)) in
+    refused-handle (lentOf (start .args .image .now) (start .args .flags)) (start .args .stamp) (start .pre) (entries (start .args .batch .now)) z (fails _ (sym (c .before .any-outside .ensures) ∙ c .if2 .taken))
+
+is-bad-stamp-requires : tie.Need-is-bad-stamp-requires
+is-bad-stamp-requires c κs = search needs
+
+any-infinite-requires : tie.Need-any-infinite-requires
+any-infinite-requires c κs = search needs
 
 same-length-2 : tie.Need-same-length-2
 same-length-2 c = search needs
 
 returns-3 : tie.Need-returns-3
 returns-3 c =
-    let z : length (entries (c .before .before .before .before .before .before .before .before .before .before .args .batch .now)) ≢ 0 = λ e. omega (arith, length-entries (c .before .before .before .before .before .before .before .before .before .before .args .batch .now)) in
-    refused-value (lentOf (c .before .before .before .before .before .before .before .before .before .before .args .image .now) (c .before .before .before .before .before .before .before .before .before .before .args .flags)) (c .before .before .before .before .before .before .before .before .before .before .args .stamp) (c .before .before .before .before .before .before .before .before .before .before .pre) (entries (c .before .before .before .before .before .before .before .before .before .before .args .batch .now)) z (sym (c .before .before .before .before .before .handles-ok .ensures) ∙ c .before .before .before .before .if2 .taken) (sym (c .before .before .before .stamp-ok .ensures) ∙ c .before .before .if3 .taken) (sym (c .before .values-ok .ensures) ∙ c .if4 .left)
+    let start = c .before .before .before .before .before .before .before .before .before in
+    let z : length (entries (start .args .batch .now)) ≢ 0 = λ e. omega (arith, length-entries (start .args .batch .now)) in
+    refused-stamp (lentOf (start .args .image .now) (start .args .flags)) (start .args .stamp) (start .pre) (entries (start .args .batch .now)) z (passes _ (sym (c .before .before .before .before .any-outside .ensures) ∙ c .before .before .before .if2 .left)) (fails _ (sym (c .before .before .is-bad-stamp .ensures) ∙ c .if3 .taken))
 
 same-length-3 : tie.Need-same-length-3
 same-length-3 c = search needs
 
 returns-4 : tie.Need-returns-4
 returns-4 c =
-    let z : length (entries (c .before .before .before .before .before .before .before .before .args .batch .now)) ≢ 0 = λ e. omega (arith, length-entries (c .before .before .before .before .before .before .before .before .args .batch .now)) in
-    refused-stamp (lentOf (c .before .before .before .before .before .before .before .before .args .image .now) (c .before .before .before .before .before .before .before .before .args .flags)) (c .before .before .before .before .before .before .before .before .args .stamp) (c .before .before .before .before .before .before .before .before .pre) (entries (c .before .before .before .before .before .before .before .before .args .batch .now)) z (sym (c .before .before .before .handles-ok .ensures) ∙ c .before .before .if2 .taken) (sym (c .before .stamp-ok .ensures) ∙ c .if3 .left)
+    let start = c .before .before .before .before .before .before .before .before .before .before in
+    let z : length (entries (start .args .batch .now)) ≢ 0 = λ e. omega (arith, length-entries (start .args .batch .now)) in
+    refused-value (lentOf (start .args .image .now) (start .args .flags)) (start .args .stamp) (start .pre) (entries (start .args .batch .now)) z (passes _ (sym (c .before .before .before .before .before .any-outside .ensures) ∙ c .before .before .before .before .if2 .left)) (passes _ (sym (c .before .before .before .is-bad-stamp .ensures) ∙ c .before .if3 .left)) (fails _ (sym (c .before .before .any-infinite .ensures) ∙ c .if4 .taken))
+
+store-schemas-requires : tie.Need-store-schemas-requires
+store-schemas-requires c κs = (c .before .before .before .before .before .before .before .before .before .before .before .pre, passes _ (sym (c .before .before .before .before .before .before .any-outside .ensures) ∙ c .before .before .before .before .before .if2 .left))
 
 same-length-4 : tie.Need-same-length-4
 same-length-4 c = search needs
 
 returns-5 : tie.Need-returns-5
 returns-5 c =
-    let z : length (entries (c .before .before .before .before .before .before .args .batch .now)) ≢ 0 = λ e. omega (arith, length-entries (c .before .before .before .before .before .before .args .batch .now)) in
-    refused-handle (lentOf (c .before .before .before .before .before .before .args .image .now) (c .before .before .before .before .before .before .args .flags)) (c .before .before .before .before .before .before .args .stamp) (c .before .before .before .before .before .before .pre) (entries (c .before .before .before .before .before .before .args .batch .now)) z (sym (c .before .handles-ok .ensures) ∙ c .if2 .left)
+    let start = c .before .before .before .before .before .before .before .before .before .before .before .before .before .before in
+    let z : length (entries (start .args .batch .now)) ≢ 0 = λ e. omega (arith, length-entries (start .args .batch .now)) in
+    recorded (lentOf (start .args .image .now) (start .args .flags)) (start .args .stamp) (start .pre) (entries (start .args .batch .now)) z (passes _ (sym (c .before .before .before .before .before .before .before .before .before .any-outside .ensures) ∙ c .before .before .before .before .before .before .before .before .if2 .left)) (passes _ (sym (c .before .before .before .before .before .before .before .is-bad-stamp .ensures) ∙ c .before .before .before .before .before .if3 .left)) (passes _ (sym (c .before .before .before .before .before .before .any-infinite .ensures) ∙ c .before .before .before .before .if4 .left)) (c .before .before .store-schemas .ensures)
 
 pub batch-opened-spec : {M : Type 1} → statement M
 batch-opened-spec =
     tie.close
     (tie.spec
     returns
-    handles-ok-requires
-    stamp-ok-requires
-    values-ok-requires
-    store-schemas-requires
+    any-outside-requires
     same-length
     returns-2
+    is-bad-stamp-requires
+    any-infinite-requires
     same-length-2
     returns-3
     same-length-3
     returns-4
+    store-schemas-requires
     same-length-4
     returns-5)

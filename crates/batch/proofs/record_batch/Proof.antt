@@ -23,8 +23,9 @@ same-length c = search needs
 
 returns : tie.Need-returns
 returns c =
+    let start = c .before .before .before .before .before .before in
     let e = c .enum-told2 .given .1 in
-    not-opened (lentOf (c .before .before .before .before .before .before .args .image .now) (c .before .before .before .before .before .before .args .flags)) (c .before .before .before .before .before .before .args .stamp) (entries (c .before .before .before .before .before .before .args .batch .now)) (outcomeNo (c .before .before .check-image .result)) (c .before .before .check-image .ensures) (λ z. some-number (c .enum-told2 .given .0 .0) (sym (ap outcomeNo e) ∙ z))
+    not-opened (lentOf (start .args .image .now) (start .args .flags)) (start .args .stamp) (entries (start .args .batch .now)) (outcomeNo (c .before .before .check-image .result)) (c .before .before .check-image .ensures) (λ z. some-number (c .enum-told2 .given .0 .0) (sym (ap outcomeNo e) ∙ z))
 
 batch-opened-requires : tie.Need-batch-opened-requires
 batch-opened-requires c κs = sym (c .before .before .before .check-image .ensures) ∙ ap outcomeNo (c .before .enum-told .given .1)

@@ -28,13 +28,14 @@ part-write-batch-end : tie.Need-part-write-batch-end
 part-write-batch-end c = search needs
 
 write-batch-requires : tie.Need-write-batch-requires
-write-batch-requires c κs = (
-  lent-sound (c .before .before .slab-at .ensures),
-  (
-    c .before .before .slab-at .ensures .some-interval,
-    columns-at (c .before .before .before .before .before .before .before .before .args .image .now) (c .before .before .before .before .before .before .before .before .args .schema) (entries (c .before .before .before .before .before .before .before .before .args .batch .now)) (c .before .before .before .before .before .before .before .before .pre .0) (c .before .before .before .before .before .before .before .before .pre .1 .0) (c .before .before .before .before .before .before .before .before .pre .1 .1) (c .before .before .before .before .first-row .ensures .0) (c .before .before .slab-at .ensures .series-is),
-  ),
-)
+write-batch-requires c κs =
+    let start = c .before .before .before .before .before .before .before .before in (
+      lent-sound (c .before .before .slab-at .ensures),
+      (
+        c .before .before .slab-at .ensures .some-interval,
+        columns-at (start .args .image .now) (start .args .schema) (entries (start .args .batch .now)) (start .pre .0) (start .pre .1 .0) (start .pre .1 .1) (c .before .before .before .before .first-row .ensures .0) (c .before .before .slab-at .ensures .series-is),
+      ),
+    )
 
 with-flag-requires : tie.Need-with-flag-requires
 with-flag-requires c κs = search needs
@@ -45,8 +46,9 @@ same-length c = search needs
 returns : tie.Need-returns
 unfolding writeTo rowNo
 returns c =
-    let es = entriesOf (c .before .before .before .before .before .before .before .before .before .before .before .before .args .schema) (entries (c .before .before .before .before .before .before .before .before .before .before .before .before .args .batch .now)) in
-    let e = lent-write (c .before .before .before .before .before .before .slab-at .ensures) (c .before .before .before .before .before .before .before .before .before .before .before .before .args .flags) es (c .before .before .before .before .before .before .before .before .before .before .before .before .args .stamp) (c .before .before .before .before .before .flag .ensures) (search needs) (c .before .before .before .write-batch .ensures .0) (c .with-flag .ensures) in
+    let start = c .before .before .before .before .before .before .before .before .before .before .before .before in
+    let es = entriesOf (start .args .schema) (entries (start .args .batch .now)) in
+    let e = lent-write (c .before .before .before .before .before .before .slab-at .ensures) (start .args .flags) es (start .args .stamp) (c .before .before .before .before .before .flag .ensures) (search needs) (c .before .before .before .write-batch .ensures .0) (c .with-flag .ensures) in
     e ∙ rw (add-zero, c .before .before .before .before .before .before .before .before .first-row .ensures .0)
 
 pub store-schema-spec : {M : Type 1} → statement M

@@ -19,11 +19,15 @@ abbrev μ-loop : tie.MeasureT-loop
 μ-loop image₀ batch stamp count next₀ k₀ image next k = count - k
 
 get-u32-requires : tie.Need-get-u32-requires Inv-loop μ-loop
-get-u32-requires c κs = omega (arith, header-in-slice (c .before .before .before .args .image .now) (c .before .before .before .pre .0))
+get-u32-requires c κs =
+    let start = c .before .before .before in
+    omega (arith, header-in-slice (start .args .image .now) (start .pre .0))
 
 loop-holds : tie.Need-loop-holds Inv-loop μ-loop
 unfolding schemas
-loop-holds c = (refl, starts (lentOf (c .before .before .before .before .args .image .now) (c .before .before .before .before .args .flags)) (entries (c .before .before .before .before .args .batch .now)) (c .before .before .before .before .args .stamp) (c .get-u32 .result) (c .before .before .before .before .pre .0) (c .get-u32 .ensures .0) (c .before .before .before .before .pre .1))
+loop-holds c =
+    let start = c .before .before .before .before in
+    (refl, starts (lentOf (start .args .image .now) (start .args .flags)) (entries (start .args .batch .now)) (start .args .stamp) (c .get-u32 .result) (start .pre .0) (c .get-u32 .ensures .0) (start .pre .1))
 
 has-entry-requires : tie.Need-has-entry-requires Inv-loop μ-loop
 has-entry-requires c κs = search needs
@@ -52,8 +56,9 @@ loop-less-2 c = search needs
 
 loop-again-2 : tie.Need-loop-again-2 Inv-loop μ-loop
 loop-again-2 c =
-    let r = c .before .before .before .loop .inv .1 in
-    (c .before .before .before .loop .inv .0, passes r (c .before .before .loop-test .taken) (sym (c .before .has-entry .ensures) ∙ c .if1 .left))
+    let turn = c .before .before .before .loop in
+    let r = turn .inv .1 in
+    (turn .inv .0, passes r (c .before .before .loop-test .taken) (sym (c .before .has-entry .ensures) ∙ c .if1 .left))
 
 same-length : tie.Need-same-length Inv-loop μ-loop
 same-length c = search needs

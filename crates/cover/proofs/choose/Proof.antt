@@ -2,7 +2,7 @@
 use Prim.Native.Nat.{_-_, _≤_, _<_}
 use native.Mathlib.Nat.{sub-zero}
 use native.Mathlib.Omega.{arith}
-use mathlib.Core.Path.{_≡_, refl, sym, _∙_}
+use mathlib.Core.Path.{_≡_, sym, _∙_}
 use Rattle.model.specs.Lent.{tiers}
 use Rattle.model.specs.Query.{chooseFrom, choose}
 use Rattle.lent.specs.Parts.{lentOf}

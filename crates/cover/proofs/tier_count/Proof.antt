@@ -1,12 +1,12 @@
 -- `cover::tier_count` meets its contract. The loop's invariant: the tiers counted, and those in the rows from row i on, are all. Assumes nothing.
-use Prim.Native.Nat.{_+_, _-_, _*_, _≤_}
+use Prim.Native.Nat.{_+_, _-_, _≤_}
 use native.Mathlib.Nat.{zero-add, sub-zero}
 use native.Mathlib.Omega.{arith}
-use mathlib.Core.Path.{_≡_, refl, sym, _∙_}
+use mathlib.Core.Path.{_≡_, sym, _∙_}
 use lib.ListN.{length}
 use borrow.Author.Tests.{eq-eqb, ne-eqb}
 use Rattle.model.specs.Image.{rowCount, rowPlace, rowsFrom, rows, tiersOf}
-use Rattle.lent.proofs.Laws.{header-in-slice, few-rows, row-in-slice}
+use Rattle.lent.proofs.Laws.{header-in-slice, row-in-slice}
 use Rattle.cover.proofs.Laws.{other-schema, own-schema, no-more}
 use borrow.Author.Needs.{needs}
 use Rattle.cover.proofs.tier_count.Statement.{statement}

@@ -1,7 +1,6 @@
 -- `ends::end_of` meets its contract. Assumes nothing.
 use Rattle.model.specs.Ring.{endOf}
 use Rattle.ends.proofs.Laws.{end-at}
-use borrow.Author.Needs.{needs}
 use Rattle.ends.proofs.end_of.Statement.{statement}
 use Rattle.ends.proofs.end_of.Tie as tie
 

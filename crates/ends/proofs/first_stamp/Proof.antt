@@ -2,7 +2,7 @@
 use Prim.Native.Nat.{_<_}
 use native.Mathlib.Omega.{arith}
 use mathlib.Core.Path.{_≡_, refl, sym, _∙_}
-use Rattle.model.specs.Ring.{stamp, walk, firstStamp}
+use Rattle.model.specs.Ring.{walk, firstStamp}
 use Rattle.ends.proofs.Laws.{stamp-there, stamp-later, stamp-none}
 use borrow.Author.Needs.{needs}
 use Rattle.ends.proofs.first_stamp.Statement.{statement}

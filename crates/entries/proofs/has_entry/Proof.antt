@@ -31,8 +31,10 @@ get-u32-requires c κs = search needs
 returns : tie.Need-returns Inv-loop μ-loop
 unfolding isSome
 returns c =
-    let e = keep-entry (c .before .before .before .before .before .args .batch .now) (c .before .before .before .loop .i) (length (c .before .before .before .before .before .args .batch .now) / 16) (c .before .before .before .before .before .args .schema) (c .before .before .loop-test .taken) (eq-eqb _ _ (sym (c .before .get-u32 .ensures .0) ∙ c .if1 .taken)) in
-    ap isSome (sym e ∙ c .before .before .before .loop .inv .1)
+    let start = c .before .before .before .before .before in
+    let turn = c .before .before .before .loop in
+    let e = keep-entry (start .args .batch .now) (turn .i) (length (start .args .batch .now) / 16) (start .args .schema) (c .before .before .loop-test .taken) (eq-eqb _ _ (sym (c .before .get-u32 .ensures .0) ∙ c .if1 .taken)) in
+    ap isSome (sym e ∙ turn .inv .1)
 
 add-i : tie.Need-add-i Inv-loop μ-loop
 add-i c = search needs
@@ -42,12 +44,17 @@ loop-less c = search needs
 
 loop-again : tie.Need-loop-again Inv-loop μ-loop
 loop-again c =
-    let e = skip-entry (c .before .before .before .before .before .args .batch .now) (c .before .before .before .loop .i) (length (c .before .before .before .before .before .args .batch .now) / 16) (c .before .before .before .before .before .args .schema) (c .before .before .loop-test .taken) (ne-eqb _ _ (λ z. c .if1 .left (c .before .get-u32 .ensures .0 ∙ z))) in
-    (omega arith, sym e ∙ c .before .before .before .loop .inv .1)
+    let start = c .before .before .before .before .before in
+    let turn = c .before .before .before .loop in
+    let e = skip-entry (start .args .batch .now) (turn .i) (length (start .args .batch .now) / 16) (start .args .schema) (c .before .before .loop-test .taken) (ne-eqb _ _ (λ z. c .if1 .left (c .before .get-u32 .ensures .0 ∙ z))) in
+    (omega arith, sym e ∙ turn .inv .1)
 
 returns-2 : tie.Need-returns-2 Inv-loop μ-loop
 unfolding isSome
-returns-2 c = ap isSome (sym (no-entry (c .before .before .before .args .batch .now) (c .before .loop .i) (length (c .before .before .before .args .batch .now) / 16) (c .before .before .before .args .schema) (c .loop-test .left)) ∙ c .before .loop .inv .1)
+returns-2 c =
+    let start = c .before .before .before in
+    let turn = c .before .loop in
+    ap isSome (sym (no-entry (start .args .batch .now) (turn .i) (length (start .args .batch .now) / 16) (start .args .schema) (c .loop-test .left)) ∙ turn .inv .1)
 
 pub has-entry-spec : {M : Type 1} → statement M
 has-entry-spec =

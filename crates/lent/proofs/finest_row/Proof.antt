@@ -8,11 +8,15 @@ use Rattle.lent.proofs.finest_row.Statement.{statement}
 use Rattle.lent.proofs.finest_row.Tie as tie
 
 get-u32-requires : tie.Need-get-u32-requires
-get-u32-requires c κs = omega (arith, header-in-slice (c .before .args .image .now) (c .before .pre))
+get-u32-requires c κs =
+    let start = c .before in
+    omega (arith, header-in-slice (start .args .image .now) (start .pre))
 
 returns : tie.Need-returns
 unfolding schemas
-returns c = sym (finest-none (c .before .before .before .args .image .now) (c .before .before .before .pre) (c .before .before .before .args .schema) (c .before .before .before .args .column) (omega arith))
+returns c =
+    let start = c .before .before .before in
+    sym (finest-none (start .args .image .now) (start .pre) (start .args .schema) (start .args .column) (omega arith))
 
 first-row-requires : tie.Need-first-row-requires
 unfolding schemas
@@ -23,11 +27,15 @@ row-u32-requires c κs = search needs
 
 returns-2 : tie.Need-returns-2
 unfolding schemas
-returns-2 c = sym (finest-wide (c .before .before .before .before .before .before .args .image .now) (c .before .before .before .before .before .before .pre) (c .before .before .before .before .before .before .args .schema) (c .before .before .before .before .before .before .args .column) (c .before .before .first-row .result) (c .before .row-u32 .result) (omega arith) (c .before .before .first-row .ensures .0) (c .before .row-u32 .ensures .0) (c .if2 .taken))
+returns-2 c =
+    let start = c .before .before .before .before .before .before in
+    sym (finest-wide (start .args .image .now) (start .pre) (start .args .schema) (start .args .column) (c .before .before .first-row .result) (c .before .row-u32 .result) (omega arith) (c .before .before .first-row .ensures .0) (c .before .row-u32 .ensures .0) (c .if2 .taken))
 
 returns-3 : tie.Need-returns-3
 unfolding schemas
-returns-3 c = sym (finest-at (c .before .before .before .before .before .before .args .image .now) (c .before .before .before .before .before .before .pre) (c .before .before .before .before .before .before .args .schema) (c .before .before .before .before .before .before .args .column) (c .before .before .first-row .result) (c .before .row-u32 .result) (omega arith) (c .before .before .first-row .ensures .0) (c .before .row-u32 .ensures .0) (c .if2 .left))
+returns-3 c =
+    let start = c .before .before .before .before .before .before in
+    sym (finest-at (start .args .image .now) (start .pre) (start .args .schema) (start .args .column) (c .before .before .first-row .result) (c .before .row-u32 .result) (omega arith) (c .before .before .first-row .ensures .0) (c .before .row-u32 .ensures .0) (c .if2 .left))
 
 pub finest-row-spec : {M : Type 1} → statement M
 finest-row-spec =

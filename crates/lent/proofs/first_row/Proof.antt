@@ -19,7 +19,9 @@ abbrev μ-loop : tie.MeasureT-loop
 μ-loop image schema count i₀ i = count - i
 
 get-u32-requires : tie.Need-get-u32-requires Inv-loop μ-loop
-get-u32-requires c κs = omega (arith, header-in-slice (c .before .args .image .now) (c .before .pre .0))
+get-u32-requires c κs =
+    let start = c .before in
+    omega (arith, header-in-slice (start .args .image .now) (start .pre .0))
 
 loop-holds : tie.Need-loop-holds Inv-loop μ-loop
 unfolding rowCount rows
@@ -30,9 +32,11 @@ row-u32-requires c κs = (c .before .before .before .before .pre .0, (omega arit
 
 returns : tie.Need-returns Inv-loop μ-loop
 returns c =
-    let s = c .before .before .before .before .before .before .args .image .now in
-    let e = sym (first-here s (c .before .before .before .before .before .before .args .schema) (c .before .before .before .loop .i) (c .before .before .before .before .get-u32 .result) (c .before .before .loop-test .taken) (eq-eqb _ _ (sym (c .before .row-u32 .ensures .0) ∙ c .if1 .taken))) ∙ c .before .before .before .loop .inv .2 in
-    (e, rw e (first-there s (c .before .before .before .before .before .before .pre .0) (c .before .before .before .before .before .before .args .schema) (c .before .before .before .before .before .before .pre .1)))
+    let start = c .before .before .before .before .before .before in
+    let turn = c .before .before .before .loop in
+    let s = start .args .image .now in
+    let e = sym (first-here s (start .args .schema) (turn .i) (c .before .before .before .before .get-u32 .result) (c .before .before .loop-test .taken) (eq-eqb _ _ (sym (c .before .row-u32 .ensures .0) ∙ c .if1 .taken))) ∙ turn .inv .2 in
+    (e, rw e (first-there s (start .pre .0) (start .args .schema) (start .pre .1)))
 
 add-i : tie.Need-add-i Inv-loop μ-loop
 add-i c = search needs
@@ -42,15 +46,19 @@ loop-less c = search needs
 
 loop-again : tie.Need-loop-again Inv-loop μ-loop
 loop-again c =
-    let s = c .before .before .before .before .before .before .args .image .now in
-    let e = first-on s (c .before .before .before .before .before .before .args .schema) (c .before .before .before .loop .i) (c .before .before .before .before .get-u32 .result) (c .before .before .loop-test .taken) (ne-eqb _ _ (λ z. c .if1 .left (c .before .row-u32 .ensures .0 ∙ z))) in
-    (omega arith, c .before .before .before .loop .inv .1, sym e ∙ c .before .before .before .loop .inv .2)
+    let start = c .before .before .before .before .before .before in
+    let turn = c .before .before .before .loop in
+    let s = start .args .image .now in
+    let e = first-on s (start .args .schema) (turn .i) (c .before .before .before .before .get-u32 .result) (c .before .before .loop-test .taken) (ne-eqb _ _ (λ z. c .if1 .left (c .before .row-u32 .ensures .0 ∙ z))) in
+    (omega arith, turn .inv .1, sym e ∙ turn .inv .2)
 
 returns-2 : tie.Need-returns-2 Inv-loop μ-loop
 returns-2 c =
-    let s = c .before .before .before .before .args .image .now in
-    let e = sym (first-past s (c .before .before .before .before .args .schema) (c .before .loop .i) (c .before .before .get-u32 .result) (c .loop-test .left)) ∙ c .before .loop .inv .2 in
-    (e, rw e (first-there s (c .before .before .before .before .pre .0) (c .before .before .before .before .args .schema) (c .before .before .before .before .pre .1)))
+    let start = c .before .before .before .before in
+    let turn = c .before .loop in
+    let s = start .args .image .now in
+    let e = sym (first-past s (start .args .schema) (turn .i) (c .before .before .get-u32 .result) (c .loop-test .left)) ∙ turn .inv .2 in
+    (e, rw e (first-there s (start .pre .0) (start .args .schema) (start .pre .1)))
 
 pub first-row-spec : {M : Type 1} → statement M
 first-row-spec =

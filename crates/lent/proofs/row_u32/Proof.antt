@@ -7,16 +7,24 @@ use Rattle.lent.proofs.row_u32.Statement.{statement}
 use Rattle.lent.proofs.row_u32.Tie as tie
 
 mul-get-u32 : tie.Need-mul-get-u32
-mul-get-u32 c = omega (arith, few-rows (c .before .args .image .now) (c .before .pre .0))
+mul-get-u32 c =
+    let start = c .before in
+    omega (arith, few-rows (start .args .image .now) (start .pre .0))
 
 add-get-u32 : tie.Need-add-get-u32
-add-get-u32 c = omega (arith, few-rows (c .before .args .image .now) (c .before .pre .0))
+add-get-u32 c =
+    let start = c .before in
+    omega (arith, few-rows (start .args .image .now) (start .pre .0))
 
 add-get-u32-2 : tie.Need-add-get-u32-2
-add-get-u32-2 c = omega (arith, few-rows (c .before .args .image .now) (c .before .pre .0))
+add-get-u32-2 c =
+    let start = c .before in
+    omega (arith, few-rows (start .args .image .now) (start .pre .0))
 
 get-u32-requires : tie.Need-get-u32-requires
-get-u32-requires c κs = omega (arith, row-in-slice (c .before .args .image .now) (c .before .pre .0) (c .before .args .row) (c .before .pre .1 .0))
+get-u32-requires c κs =
+    let start = c .before in
+    omega (arith, row-in-slice (start .args .image .now) (start .pre .0) (start .args .row) (start .pre .1 .0))
 
 returns : tie.Need-returns
 unfolding rowPlace

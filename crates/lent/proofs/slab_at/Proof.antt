@@ -18,16 +18,24 @@ row-u64-requires-3 : tie.Need-row-u64-requires-3
 row-u64-requires-3 c κs = search needs
 
 add-get-u32 : tie.Need-add-get-u32
-add-get-u32 c = omega (arith, slab-long (c .before .before .before .before .before .args .image .now) (c .before .before .before .before .before .pre .0) (c .before .before .before .before .before .args .row) (c .before .before .before .before .before .pre .1), slab-inside (c .before .before .before .before .before .args .image .now) (c .before .before .before .before .before .pre .0) (c .before .before .before .before .before .args .row) (c .before .before .before .before .before .pre .1))
+add-get-u32 c =
+    let start = c .before .before .before .before .before in
+    omega (arith, slab-long (start .args .image .now) (start .pre .0) (start .args .row) (start .pre .1), slab-inside (start .args .image .now) (start .pre .0) (start .args .row) (start .pre .1))
 
 get-u32-requires : tie.Need-get-u32-requires
-get-u32-requires c κs = omega (arith, slab-long (c .before .before .before .before .before .args .image .now) (c .before .before .before .before .before .pre .0) (c .before .before .before .before .before .args .row) (c .before .before .before .before .before .pre .1), slab-inside (c .before .before .before .before .before .args .image .now) (c .before .before .before .before .before .pre .0) (c .before .before .before .before .before .args .row) (c .before .before .before .before .before .pre .1))
+get-u32-requires c κs =
+    let start = c .before .before .before .before .before in
+    omega (arith, slab-long (start .args .image .now) (start .pre .0) (start .args .row) (start .pre .1), slab-inside (start .args .image .now) (start .pre .0) (start .args .row) (start .pre .1))
 
 add-t9 : tie.Need-add-t9
-add-t9 c = omega (arith, slab-inside (c .before .before .before .before .before .before .args .image .now) (c .before .before .before .before .before .before .pre .0) (c .before .before .before .before .before .before .args .row) (c .before .before .before .before .before .before .pre .1))
+add-t9 c =
+    let start = c .before .before .before .before .before .before in
+    omega (arith, slab-inside (start .args .image .now) (start .pre .0) (start .args .row) (start .pre .1))
 
 returns : tie.Need-returns
-returns c = slab-is (c .before .before .before .before .before .before .args .image .now) (c .before .before .before .before .before .before .pre .0) (c .before .before .before .before .before .before .args .row) (c .before .before .before .before .before .before .pre .1) (c .before .before .before .before .row-u64 .ensures) (c .before .before .before .row-u32 .ensures .0) (c .before .before .row-u642 .ensures) (c .before .row-u643 .ensures) (c .get-u32 .ensures .0)
+returns c =
+    let start = c .before .before .before .before .before .before in
+    slab-is (start .args .image .now) (start .pre .0) (start .args .row) (start .pre .1) (c .before .before .before .before .row-u64 .ensures) (c .before .before .before .row-u32 .ensures .0) (c .before .before .row-u642 .ensures) (c .before .row-u643 .ensures) (c .get-u32 .ensures .0)
 
 pub slab-at-spec : {M : Type 1} → statement M
 slab-at-spec =

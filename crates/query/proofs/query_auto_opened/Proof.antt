@@ -1,6 +1,6 @@
 -- `query::query_auto_opened` meets its contract, one case a return. Assumes nothing.
 use native.Mathlib.Omega.{arith}
-use mathlib.Core.Path.{_≡_, sym, _∙_}
+use mathlib.Core.Path.{sym, _∙_}
 use Rattle.lent.proofs.Laws.{few-rows}
 use Rattle.cover.proofs.Laws.{tier-there}
 use Rattle.query.proofs.Laws.{auto-bad-handle, first-is, has-tier, auto-bad-range, auto-answers}

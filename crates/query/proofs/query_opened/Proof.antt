@@ -1,6 +1,6 @@
 -- `query::query_opened` meets its contract, one case a return. Assumes nothing.
 use native.Mathlib.Omega.{arith}
-use mathlib.Core.Path.{_≡_, sym, _∙_}
+use mathlib.Core.Path.{sym, _∙_}
 use Rattle.lent.proofs.Laws.{few-rows}
 use Rattle.cover.proofs.Laws.{tier-there}
 use Rattle.query.proofs.Laws.{bad-handle, first-is, bad-tier, bad-range, answers}
@@ -36,11 +36,6 @@ returns-2 c =
     let a = c .before .before .before .before .before .before .before .before .args in
     bad-tier (a .image .now) (a .flags) (a .handle .schema) (a .handle .column) (a .start) (a .end) (c .before .before .before .before .before .before .before .before .pre) (sym (c .before .before .before .before .before .finest-row .ensures) ∙ c .before .before .before .first .given .1) (a .tier) (omega (arith, c .before .tier-count .ensures))
 
-returns-3 : tie.Need-returns-3
-returns-3 c =
-    let a = c .before .before .before .before .before .before .before .before .before .args in
-    bad-range (a .image .now) (a .flags) (a .handle .schema) (a .handle .column) (a .start) (a .end) (c .before .before .before .before .before .before .before .before .before .pre) (sym (c .before .before .before .before .before .before .finest-row .ensures) ∙ c .before .before .before .before .first .given .1) (a .tier) (omega (arith, c .before .before .tier-count .ensures)) (c .if2 .taken)
-
 add-row : tie.Need-add-row
 add-row c =
     let a = c .before .before .before .before .before .before .before .before .before .args in
@@ -53,10 +48,15 @@ answer-requires c κs =
     let e = first-is (a .image .now) (a .flags) (a .handle .schema) (a .handle .column) (a .start) (a .end) (c .before .before .before .before .before .before .before .before .before .pre) (sym (c .before .before .before .before .before .before .finest-row .ensures) ∙ c .before .before .before .before .first .given .1) in
     (c .before .before .before .before .before .before .before .before .before .pre, tier-there (a .image .now) (c .before .before .before .before .before .before .before .before .before .pre) (a .handle .schema) (a .tier) e (omega (arith, c .before .before .tier-count .ensures)))
 
+returns-3 : tie.Need-returns-3
+returns-3 c =
+    let a = c .before .before .before .before .before .before .before .before .before .before .args in
+    answers (a .image .now) (a .flags) (a .handle .schema) (a .handle .column) (a .start) (a .end) (c .before .before .before .before .before .before .before .before .before .before .pre) (sym (c .before .before .before .before .before .before .before .finest-row .ensures) ∙ c .before .before .before .before .before .first .given .1) (a .tier) (omega (arith, c .before .before .before .tier-count .ensures)) (c .before .if2 .taken) (c .answer .ensures)
+
 returns-4 : tie.Need-returns-4
 returns-4 c =
-    let a = c .before .before .before .before .before .before .before .before .before .before .args in
-    answers (a .image .now) (a .flags) (a .handle .schema) (a .handle .column) (a .start) (a .end) (c .before .before .before .before .before .before .before .before .before .before .pre) (sym (c .before .before .before .before .before .before .before .finest-row .ensures) ∙ c .before .before .before .before .before .first .given .1) (a .tier) (omega (arith, c .before .before .before .tier-count .ensures)) (c .before .if2 .left) (c .answer .ensures)
+    let a = c .before .before .before .before .before .before .before .before .before .args in
+    bad-range (a .image .now) (a .flags) (a .handle .schema) (a .handle .column) (a .start) (a .end) (c .before .before .before .before .before .before .before .before .before .pre) (sym (c .before .before .before .before .before .before .finest-row .ensures) ∙ c .before .before .before .before .first .given .1) (a .tier) (omega (arith, c .before .before .tier-count .ensures)) (c .if2 .left)
 
 pub query-opened-spec : {M : Type 1} → statement M
 query-opened-spec =
@@ -70,7 +70,7 @@ query-opened-spec =
     returns
     tier-count-requires
     returns-2
-    returns-3
     add-row
     answer-requires
+    returns-3
     returns-4)

@@ -1,6 +1,6 @@
 -- `reader::step` meets its contract: a place that can't be read is at its end. Assumes nothing.
 use native.Mathlib.Omega.{arith}
-use mathlib.Core.Path.{_≡_, sym, _∙_}
+use mathlib.Core.Path.{sym, _∙_}
 use Rattle.model.specs.Read.{step, stepped}
 use Rattle.reader.proofs.Laws.{header-there, held}
 use borrow.Author.Needs.{needs}

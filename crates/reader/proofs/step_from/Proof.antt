@@ -1,7 +1,7 @@
 -- `reader::step_from` meets its contract. The loop's invariant: a step from here on is the step from the place on. Assumes nothing.
 use Prim.Native.Nat.{_<_}
 use native.Mathlib.Omega.{arith}
-use mathlib.Core.Path.{_≡_, refl, sym, _∙_}
+use mathlib.Core.Path.{_≡_, refl}
 use Rattle.model.specs.Ring.{stamp, cell}
 use Rattle.model.specs.Read.{stepFrom, stepped}
 use Rattle.reader.proofs.Laws.{stamp-is, cell-is, skip-early, skip-late, skip-nan, hand-out, finished}

@@ -21,8 +21,9 @@ same-length c = search needs
 
 returns : tie.Need-returns
 returns c =
+    let start = c .before .before .before .before .before in
     let e = c .enum-told2 .given .1 in
-    not-opened (c .before .before .before .before .before .args .image .now) (c .before .before .before .before .before .args .flags) (c .before .before .before .before .before .args .handle .schema) (c .before .before .before .before .before .args .handle .column) (c .before .before .before .before .before .args .value) (c .before .before .before .before .before .args .stamp) (outcomeNo (c .before .before .check-image .result)) (c .before .before .check-image .ensures) (λ z. some-number (c .enum-told2 .given .0 .0) (sym (ap outcomeNo e) ∙ z))
+    not-opened (start .args .image .now) (start .args .flags) (start .args .handle .schema) (start .args .handle .column) (start .args .value) (start .args .stamp) (outcomeNo (c .before .before .check-image .result)) (c .before .before .check-image .ensures) (λ z. some-number (c .enum-told2 .given .0 .0) (sym (ap outcomeNo e) ∙ z))
 
 record-opened-requires : tie.Need-record-opened-requires
 record-opened-requires c κs = sym (c .before .before .before .check-image .ensures) ∙ ap outcomeNo (c .before .enum-told .given .1)

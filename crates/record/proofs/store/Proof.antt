@@ -31,7 +31,9 @@ same-length : tie.Need-same-length
 same-length c = search needs
 
 returns : tie.Need-returns
-returns c = lent-write (c .before .before .before .before .before .before .slab-at .ensures) (c .before .before .before .before .before .before .before .before .before .args .flags) (one (c .before .before .before .before .before .before .before .before .before .args .column) (c .before .before .before .before .before .before .before .before .before .args .value)) (c .before .before .before .before .before .before .before .before .before .args .stamp) (c .before .before .before .before .before .flag .ensures) (search needs) (c .before .before .before .write .ensures .0) (c .with-flag .ensures)
+returns c =
+    let start = c .before .before .before .before .before .before .before .before .before in
+    lent-write (c .before .before .before .before .before .before .slab-at .ensures) (start .args .flags) (one (start .args .column) (start .args .value)) (start .args .stamp) (c .before .before .before .before .before .flag .ensures) (search needs) (c .before .before .before .write .ensures .0) (c .with-flag .ensures)
 
 pub store-spec : {M : Type 1} → statement M
 store-spec =

@@ -14,18 +14,19 @@ write-stamp-requires c κs = search needs
 write-cell-requires : tie.Need-write-cell-requires
 write-cell-requires c κs = (sized (c .before .before .before .write-stamp .ensures .sound), (c .before .before .before .write-stamp .ensures .slot-in, search needs))
 
-put-u32-requires : tie.Need-put-u32-requires
-put-u32-requires c κs = omega (arith, header-in (c .before .before .before .write-cell .ensures .1))
+write-cursor-requires : tie.Need-write-cursor-requires
+write-cursor-requires c κs = omega (arith, header-in (c .before .before .before .write-cell .ensures .1))
 
 same-length : tie.Need-same-length
 same-length c = search needs
 
 returns : tie.Need-returns
 returns c =
+    let start = c .before .before .before .before .before .before .before .before .before .before .before .before .before in
     let t = c .before .before .before .before .before .before .before .before .before .before .write-stamp .ensures in
-    written (c .before .before .before .before .before .before .before .before .before .before .before .before .before .pre .0) (c .before .before .before .before .before .before .before .before .before .before .before .before .before .args .wrapped) (one (c .before .before .before .before .before .before .before .before .before .before .before .before .before .args .column) (c .before .before .before .before .before .before .before .before .before .before .before .before .before .args .value)) (c .before .before .before .before .before .before .before .before .before .before .before .before .before .args .stamp) (c .before .before .before .before .before .before .before .before .before .before .write-stamp .result .slot) (t .slot-is) (cc) (t .flag-is)
+    written (start .pre .0) (start .args .wrapped) (one (start .args .column) (start .args .value)) (start .args .stamp) (c .before .before .before .before .before .before .before .before .before .before .write-stamp .result .slot) (t .slot-is) (cc) (t .flag-is)
 
 pub write-spec : {M : Type 1} → statement M
 write-spec =
     tie.close
-    (tie.spec write-stamp-requires write-cell-requires put-u32-requires same-length returns)
+    (tie.spec write-stamp-requires write-cell-requires write-cursor-requires same-length returns)

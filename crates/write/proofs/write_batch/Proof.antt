@@ -15,18 +15,19 @@ write-stamp-requires c κs = search needs
 write-cells-requires : tie.Need-write-cells-requires
 write-cells-requires c κs = (sized (c .before .before .before .write-stamp .ensures .sound), (c .before .before .before .write-stamp .ensures .slot-in, c .before .before .before .before .before .before .before .pre .1 .1))
 
-put-u32-requires : tie.Need-put-u32-requires
-put-u32-requires c κs = omega (arith, header-in (c .before .before .before .before .before .before .before .write-stamp .ensures .sound))
+write-cursor-requires : tie.Need-write-cursor-requires
+write-cursor-requires c κs = omega (arith, header-in (c .before .before .before .before .before .before .before .write-stamp .ensures .sound))
 
 same-length : tie.Need-same-length
 same-length c = search needs
 
 returns : tie.Need-returns
 returns c =
+    let start = c .before .before .before .before .before .before .before .before .before .before .before .before .before .before in
     let t = c .before .before .before .before .before .before .before .before .before .before .write-stamp .ensures in
-    written (c .before .before .before .before .before .before .before .before .before .before .before .before .before .before .pre .0) (c .before .before .before .before .before .before .before .before .before .before .before .before .before .before .args .wrapped) (entriesOf (c .before .before .before .before .before .before .before .before .before .before .before .before .before .before .args .schema) (entries (c .before .before .before .before .before .before .before .before .before .before .before .before .before .before .args .batch .now))) (c .before .before .before .before .before .before .before .before .before .before .before .before .before .before .args .stamp) (c .before .before .before .before .before .before .before .before .before .before .write-stamp .result .slot) (t .slot-is) (cc) (t .flag-is)
+    written (start .pre .0) (start .args .wrapped) (entriesOf (start .args .schema) (entries (start .args .batch .now))) (start .args .stamp) (c .before .before .before .before .before .before .before .before .before .before .write-stamp .result .slot) (t .slot-is) (cc) (t .flag-is)
 
 pub write-batch-spec : {M : Type 1} → statement M
 write-batch-spec =
     tie.close
-    (tie.spec write-stamp-requires write-cells-requires put-u32-requires same-length returns)
+    (tie.spec write-stamp-requires write-cells-requires write-cursor-requires same-length returns)

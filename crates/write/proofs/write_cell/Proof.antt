@@ -21,11 +21,12 @@ same-length c = search needs
 returns : tie.Need-returns
 unfolding putCells
 returns c =
-    let s = c .before .before .before .before .before .before .args .slab .now in
-    let o = cellAt s (c .before .before .before .before .before .before .args .column) (c .before .before .before .before .before .before .args .slot) in
-    let at : c .before .before .before .before .cell-place .result ≡ o = cc (cell-place s (c .before .before .before .before .before .before .args .n) (c .before .before .before .before .before .before .args .m) (c .before .before .before .before .before .before .pre .0) (c .before .before .before .before .before .before .args .column) (c .before .before .before .before .before .before .args .slot)) in
-    let e : c .before .before .put-u64 .last .0 ≡ put 8 s o (c .before .before .before .before .before .before .args .value) = cc in
-    (e, rw e (sound-put (c .before .before .before .before .before .before .pre .0) o (c .before .before .before .before .before .before .args .value) (cellAt-high s (c .before .before .before .before .before .before .args .column) (c .before .before .before .before .before .before .args .slot))))
+    let start = c .before .before .before .before .before .before in
+    let s = start .args .slab .now in
+    let o = cellAt s (start .args .column) (start .args .slot) in
+    let at : c .before .before .before .before .cell-place .result ≡ o = cc (cell-place s (start .args .n) (start .args .m) (start .pre .0) (start .args .column) (start .args .slot)) in
+    let e : c .before .before .put-u64 .last .0 ≡ put 8 s o (start .args .value) = cc in
+    (e, rw e (sound-put (start .pre .0) o (start .args .value) (cellAt-high s (start .args .column) (start .args .slot))))
 
 pub write-cell-spec : {M : Type 1} → statement M
 write-cell-spec = tie.close (tie.spec cell-place-requires put-u64-requires same-length returns)

@@ -31,7 +31,9 @@ abbrev μ-loop : tie.MeasureT-loop
 
 loop-holds : tie.Need-loop-holds Inv-loop μ-loop
 unfolding entries
-loop-holds c = (search needs, refl, c .before .before .pre .0, rw (sub-zero _) (c .before .before .pre .1 .1), rw (sub-zero _))
+loop-holds c =
+    let start = c .before .before in
+    (search needs, refl, start .pre .0, rw (sub-zero _) (start .pre .1 .1), rw (sub-zero _))
 
 mul-get-u32 : tie.Need-mul-get-u32 Inv-loop μ-loop
 mul-get-u32 c = search needs
@@ -47,8 +49,10 @@ loop-less c = search needs
 
 loop-again : tie.Need-loop-again Inv-loop μ-loop
 loop-again c =
-    let e = skip-entry (c .before .before .before .before .before .before .args .batch .now) (c .before .before .before .loop .i) (length (c .before .before .before .before .before .before .args .batch .now) / 16) (c .before .before .before .before .before .before .args .schema) (c .before .before .loop-test .taken) (ne-eqb _ _ (λ z. c .if1 .taken (c .before .get-u32 .ensures .0 ∙ z))) in
-    (omega arith, c .before .before .before .loop .inv .1, c .before .before .before .loop .inv .2, rw e at (c .before .before .before .loop .inv .3), rw e at (c .before .before .before .loop .inv .4))
+    let start = c .before .before .before .before .before .before in
+    let turn = c .before .before .before .loop in
+    let e = skip-entry (start .args .batch .now) (turn .i) (length (start .args .batch .now) / 16) (start .args .schema) (c .before .before .loop-test .taken) (ne-eqb _ _ (λ z. c .if1 .taken (c .before .get-u32 .ensures .0 ∙ z))) in
+    (omega arith, turn .inv .1, turn .inv .2, rw e at (turn .inv .3), rw e at (turn .inv .4))
 
 mul-get-u32-2 : tie.Need-mul-get-u32-2 Inv-loop μ-loop
 mul-get-u32-2 c = search needs
@@ -70,8 +74,10 @@ get-u64-requires c κs = search needs
 
 write-cell-requires : tie.Need-write-cell-requires Inv-loop μ-loop
 write-cell-requires c κs =
-    let e = keep-entry (c .before .before .before .before .before .before .before .before .before .args .batch .now) (c .before .before .before .before .before .before .loop .i) (length (c .before .before .before .before .before .before .before .before .before .args .batch .now) / 16) (c .before .before .before .before .before .before .before .before .before .args .schema) (c .before .before .before .before .before .loop-test .taken) (eq-eqb _ _ (sym (c .before .before .before .before .get-u32 .ensures .0) ∙ c .before .before .before .if1 .left)) in
-    (sized (c .before .before .before .before .before .before .loop .inv .2), (search needs, omega (arith, (rw e at (c .before .before .before .before .before .before .loop .inv .3)) .0)))
+    let start = c .before .before .before .before .before .before .before .before .before in
+    let turn = c .before .before .before .before .before .before .loop in
+    let e = keep-entry (start .args .batch .now) (turn .i) (length (start .args .batch .now) / 16) (start .args .schema) (c .before .before .before .before .before .loop-test .taken) (eq-eqb _ _ (sym (c .before .before .before .before .get-u32 .ensures .0) ∙ c .before .before .before .if1 .left)) in
+    (sized (turn .inv .2), (search needs, omega (arith, (rw e at (turn .inv .3)) .0)))
 
 add-i-2 : tie.Need-add-i-2 Inv-loop μ-loop
 add-i-2 c = search needs
@@ -81,15 +87,17 @@ loop-less-2 c = search needs
 
 loop-again-2 : tie.Need-loop-again-2 Inv-loop μ-loop
 loop-again-2 c =
-    let b = c .before .before .before .before .before .before .before .before .before .before .before .before .args .batch .now in
-    let i = c .before .before .before .before .before .before .before .before .before .loop .i in
-    let e = keep-entry b i (length b / 16) (c .before .before .before .before .before .before .before .before .before .before .before .before .args .schema) (c .before .before .before .before .before .before .before .before .loop-test .taken) (eq-eqb _ _ (sym (c .before .before .before .before .before .before .before .get-u32 .ensures .0) ∙ c .before .before .before .before .before .before .if1 .left)) in
-    let p : c .before .before .write-cell .last .0 ≡ putCells (c .before .before .before .before .before .before .before .before .before .loop .slab) (c .before .before .before .before .before .before .before .before .before .before .before .before .args .slot) (one (get 4 b (16 * i + 4)) (get 8 b (16 * i + 8))) = cc in (
+    let start = c .before .before .before .before .before .before .before .before .before .before .before .before in
+    let turn = c .before .before .before .before .before .before .before .before .before .loop in
+    let b = start .args .batch .now in
+    let i = turn .i in
+    let e = keep-entry b i (length b / 16) (start .args .schema) (c .before .before .before .before .before .before .before .before .loop-test .taken) (eq-eqb _ _ (sym (c .before .before .before .before .before .before .before .get-u32 .ensures .0) ∙ c .before .before .before .before .before .before .if1 .left)) in
+    let p : c .before .before .write-cell .last .0 ≡ putCells (turn .slab) (start .args .slot) (one (get 4 b (16 * i + 4)) (get 8 b (16 * i + 8))) = cc in (
       omega arith,
       search needs,
-      subst (Sound (c .before .before .write-cell .last .0) (c .before .before .before .before .before .before .before .before .before .before .before .before .args .n) (c .before .before .before .before .before .before .before .before .before .before .before .before .args .m)) (c .before .before .before .before .before .before .before .before .before .loop .inv .2 .interval-is) (c .before .before .write-cell .ensures .1),
-      (rw e at (c .before .before .before .before .before .before .before .before .before .loop .inv .3)) .1,
-      cell-turn (c .before .before .before .before .before .before .before .before .before .loop .slab) (c .before .before .before .before .before .before .before .before .before .before .before .before .args .slot) (get 4 b (16 * i + 4)) (get 8 b (16 * i + 8)) (entriesOf (c .before .before .before .before .before .before .before .before .before .before .before .before .args .schema) (entriesFrom b (i + 1) (length b / 16 - (i + 1)))) p (rw e at (c .before .before .before .before .before .before .before .before .before .loop .inv .4)),
+      subst (Sound (c .before .before .write-cell .last .0) (start .args .n) (start .args .m)) (turn .inv .2 .interval-is) (c .before .before .write-cell .ensures .1),
+      (rw e at (turn .inv .3)) .1,
+      cell-turn (turn .slab) (start .args .slot) (get 4 b (16 * i + 4)) (get 8 b (16 * i + 8)) (entriesOf (start .args .schema) (entriesFrom b (i + 1) (length b / 16 - (i + 1)))) p (rw e at (turn .inv .4)),
     )
 
 same-length : tie.Need-same-length Inv-loop μ-loop
@@ -97,7 +105,10 @@ same-length c = search needs
 
 returns : tie.Need-returns Inv-loop μ-loop
 unfolding putCells
-returns c = rw (no-entry (c .before .before .before .before .args .batch .now) (c .before .loop .i) (length (c .before .before .before .before .args .batch .now) / 16) (c .before .before .before .before .args .schema) (c .loop-test .left)) at (c .before .loop .inv .4)
+returns c =
+    let start = c .before .before .before .before in
+    let turn = c .before .loop in
+    rw (no-entry (start .args .batch .now) (turn .i) (length (start .args .batch .now) / 16) (start .args .schema) (c .loop-test .left)) at (turn .inv .4)
 
 pub write-cells-spec : {M : Type 1} → statement M
 write-cells-spec =

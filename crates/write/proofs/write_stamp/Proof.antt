@@ -12,7 +12,9 @@ use Rattle.write.proofs.write_stamp.Statement.{statement}
 use Rattle.write.proofs.write_stamp.Tie as tie
 
 slot-of-requires : tie.Need-slot-of-requires
-slot-of-requires c κs = (c .before .pre .1, some-slots (c .before .pre .0))
+slot-of-requires c κs =
+    let start = c .before in
+    (start .pre .1, some-slots (start .pre .0))
 
 cursor-of-requires : tie.Need-cursor-of-requires
 cursor-of-requires c κs = sized (c .before .before .before .pre .0)
@@ -31,16 +33,17 @@ same-length c = search needs
 
 returns : tie.Need-returns
 returns c =
-    let s = c .before .before .before .before .before .before .before .before .before .before .args .slab .now in
+    let start = c .before .before .before .before .before .before .before .before .before .before in
+    let s = start .args .slab .now in
     let i = c .before .before .before .before .before .before .before .before .slot-of .result in
-    let at : c .before .before .before .before .stamp-place .result ≡ stampAt s i = cc (stamp-place s (c .before .before .before .before .before .before .before .before .before .before .args .n) (c .before .before .before .before .before .before .before .before .before .before .args .m) (sized (c .before .before .before .before .before .before .before .before .before .before .pre .0)) i) in
-    let e : c .before .before .put-u64 .last .0 ≡ put 8 s (stampAt s i) (c .before .before .before .before .before .before .before .before .before .before .args .stamp) = cc in
+    let at : c .before .before .before .before .stamp-place .result ≡ stampAt s i = cc (stamp-place s (start .args .n) (start .args .m) (sized (start .pre .0)) i) in
+    let e : c .before .before .put-u64 .last .0 ≡ put 8 s (stampAt s i) (start .args .stamp) = cc in
     record {
       slot-is = c .before .before .before .before .before .before .before .before .slot-of .ensures .0;
       slot-in = c .before .before .before .before .before .before .before .before .slot-of .ensures .1;
       flag-is = cc;
       slab-is = e;
-      sound = rw e (sound-put (c .before .before .before .before .before .before .before .before .before .before .pre .0) (stampAt s i) (c .before .before .before .before .before .before .before .before .before .before .args .stamp) (stampAt-high s i));
+      sound = rw e (sound-put (start .pre .0) (stampAt s i) (start .args .stamp) (stampAt-high s i));
     }
 
 pub write-stamp-spec : {M : Type 1} → statement M

@@ -1,9 +1,9 @@
--- `entries::handles_ok` meets its contract. The loop's invariant: the test of the entries from entry i on is the test of all. Assumes nothing.
+-- `entries::any_outside` meets its contract. The loop's invariant: the test of the entries from entry i on is the test of all. Assumes nothing.
 use Prim.Native.Nat.{_+_, _-_, _*_, _/_, _≤_}
 use native.Mathlib.Nat.{sub-zero}
 use native.Mathlib.Omega.{arith}
 use mathlib.Core.Path.{_≡_, sym, ap, _∙_}
-use mathlib.Core.Bool.{true, false}
+use mathlib.Core.Bool.{true, false, not}
 use mathlib.Core.List.{[]}
 use lib.ListN.{length}
 use Rattle.model.specs.Bytes.{get}
@@ -14,8 +14,8 @@ use Rattle.lent.specs.declared.Finest.the-variants.{At, Missing}
 use Rattle.lent.specs.Handle.{handle-none, handle-at}
 use Rattle.entries.specs.Entries.{fits, fits-is, every-on, every-no, every-end}
 use borrow.Author.Needs.{needs}
-use Rattle.entries.proofs.handles_ok.Statement.{statement}
-use Rattle.entries.proofs.handles_ok.Tie as tie
+use Rattle.entries.proofs.any_outside.Statement.{statement}
+use Rattle.entries.proofs.any_outside.Tie as tie
 
 abbrev Inv-loop : tie.InvT-loop
 Inv-loop image batch count i₀ i = (i ≤ count) × (everyEntry (fits image) (entriesFrom batch i (count - i)) ≡ everyEntry (fits image) (entries batch))
@@ -53,11 +53,13 @@ enum-told-2 c = search needs
 
 returns : tie.Need-returns Inv-loop μ-loop
 returns c =
-    let s = c .before .before .before .before .before .before .before .before .before .args .image .now in
-    let b = c .before .before .before .before .before .before .before .before .before .args .batch .now in
-    let i = c .before .before .before .before .before .before .loop .i in
+    let start = c .before .before .before .before .before .before .before .before .before in
+    let turn = c .before .before .before .before .before .before .loop in
+    let s = start .args .image .now in
+    let b = start .args .batch .now in
+    let i = turn .i in
     let e : finestOf s (get 4 b (16 * i)) (get 4 b (16 * i + 4)) ≡ Missing = rw (← c .before .before .before .before .get-u32 .ensures .0, ← c .before .before .before .get-u322 .ensures .0) (sym (c .before .before .finest-row .ensures) ∙ c .enum-told2 .given .1) in
-    sym (every-no (fits s) b i (length b / 16) (c .before .before .before .before .before .loop-test .taken) (fits-is b i s false (handle-none (record { image = s; flags = [] }) (get 4 b (16 * i)) (get 4 b (16 * i + 4)) e))) ∙ c .before .before .before .before .before .before .loop .inv .1
+    ap not (sym (every-no (fits s) b i (length b / 16) (c .before .before .before .before .before .loop-test .taken) (fits-is b i s false (handle-none (record { image = s; flags = [] }) (get 4 b (16 * i)) (get 4 b (16 * i + 4)) e))) ∙ turn .inv .1)
 
 add-i : tie.Need-add-i Inv-loop μ-loop
 add-i c = search needs
@@ -67,17 +69,22 @@ loop-less c = search needs
 
 loop-again : tie.Need-loop-again Inv-loop μ-loop
 loop-again c =
-    let s = c .before .before .before .before .before .before .before .before .before .args .image .now in
-    let b = c .before .before .before .before .before .before .before .before .before .args .batch .now in
-    let i = c .before .before .before .before .before .before .loop .i in
+    let start = c .before .before .before .before .before .before .before .before .before in
+    let turn = c .before .before .before .before .before .before .loop in
+    let s = start .args .image .now in
+    let b = start .args .batch .now in
+    let i = turn .i in
     let e : finestOf s (get 4 b (16 * i)) (get 4 b (16 * i + 4)) ≡ At (c .enum-told .given .0 .0) = rw (← c .before .before .before .before .get-u32 .ensures .0, ← c .before .before .before .get-u322 .ensures .0) (sym (c .before .before .finest-row .ensures) ∙ c .enum-told .given .1) in
-    (omega arith, sym (every-on (fits s) b i (length b / 16) (c .before .before .before .before .before .loop-test .taken) (fits-is b i s true (handle-at (record { image = s; flags = [] }) (get 4 b (16 * i)) (get 4 b (16 * i + 4)) e .0))) ∙ c .before .before .before .before .before .before .loop .inv .1)
+    (omega arith, sym (every-on (fits s) b i (length b / 16) (c .before .before .before .before .before .loop-test .taken) (fits-is b i s true (handle-at (record { image = s; flags = [] }) (get 4 b (16 * i)) (get 4 b (16 * i + 4)) e .0))) ∙ turn .inv .1)
 
 returns-2 : tie.Need-returns-2 Inv-loop μ-loop
-returns-2 c = sym (every-end (fits (c .before .before .before .before .args .image .now)) (c .before .before .before .before .args .batch .now) (c .before .loop .i) (length (c .before .before .before .before .args .batch .now) / 16) (c .loop-test .left)) ∙ c .before .loop .inv .1
+returns-2 c =
+    let start = c .before .before .before .before in
+    let turn = c .before .loop in
+    ap not (sym (every-end (fits (start .args .image .now)) (start .args .batch .now) (turn .i) (length (start .args .batch .now) / 16) (c .loop-test .left)) ∙ turn .inv .1)
 
-pub handles-ok-spec : {M : Type 1} → statement M
-handles-ok-spec =
+pub any-outside-spec : {M : Type 1} → statement M
+any-outside-spec =
     tie.close
     (tie.spec
     Inv-loop
