@@ -1,7 +1,8 @@
 -- `reader::step_from` meets its contract. The loop's invariant: a step from here on is the step from the place on. Assumes nothing.
 use Prim.Native.Nat.{_<_}
 use native.Mathlib.Omega.{arith}
-use mathlib.Core.Path.{_≡_, refl}
+use mathlib.Core.Path.{_≡_, refl, ap, _∙_}
+use Rattle.model.specs.Bytes.{get}
 use Rattle.model.specs.Ring.{stamp, cell}
 use Rattle.model.specs.Read.{stepFrom, stepped}
 use Rattle.reader.proofs.Laws.{stamp-is, cell-is, skip-early, skip-late, skip-nan, hand-out, finished}
@@ -38,7 +39,7 @@ loop-again c =
     let a = c .before .before .before .before .before .before .before .args in
     let l = c .before .before .before .before .before .loop in
     let h = c .before .before .before .before .before .before .before .pre .0 in
-    let t : c .before .before .get-u64 .result ≡ stamp (a .slab .now) (l .slot) = cc (stamp-is (a .slab .now) h (l .slot)) in
+    let t : c .before .before .get-u64 .result ≡ stamp (a .slab .now) (l .slot) = c .before .before .get-u64 .ensures ∙ ap (get 8 (a .slab .now)) (c .before .before .before .stamp-place .ensures .0) ∙ stamp-is (a .slab .now) h (l .slot) in
     (c .before .next-slot .ensures .1, skip-early (a .slab .now) (a .column) (a .start) (a .end) h (l .slot) (l .left) (c .before .before .before .before .loop-test .taken) (l .inv .1) t (c .before .next-slot .ensures .0) (c .if1 .taken))
 
 loop-less-2 : tie.Need-loop-less-2 Inv-loop μ-loop
@@ -49,7 +50,7 @@ loop-again-2 c =
     let a = c .before .before .before .before .before .before .before .before .args in
     let l = c .before .before .before .before .before .before .loop in
     let h = c .before .before .before .before .before .before .before .before .pre .0 in
-    let t : c .before .before .before .get-u64 .result ≡ stamp (a .slab .now) (l .slot) = cc (stamp-is (a .slab .now) h (l .slot)) in
+    let t : c .before .before .before .get-u64 .result ≡ stamp (a .slab .now) (l .slot) = c .before .before .before .get-u64 .ensures ∙ ap (get 8 (a .slab .now)) (c .before .before .before .before .stamp-place .ensures .0) ∙ stamp-is (a .slab .now) h (l .slot) in
     (c .before .before .next-slot .ensures .1, skip-late (a .slab .now) (a .column) (a .start) (a .end) h (l .slot) (l .left) (c .before .before .before .before .before .loop-test .taken) (l .inv .1) t (c .before .before .next-slot .ensures .0) (c .if2 .taken))
 
 cell-place-requires : tie.Need-cell-place-requires Inv-loop μ-loop
@@ -69,8 +70,8 @@ loop-again-3 c =
     let a = c .before .before .before .before .before .before .before .before .before .before .before .before .args in
     let l = c .before .before .before .before .before .before .before .before .before .before .loop in
     let h = c .before .before .before .before .before .before .before .before .before .before .before .before .pre .0 in
-    let t : c .before .before .before .before .before .before .before .get-u64 .result ≡ stamp (a .slab .now) (l .slot) = cc (stamp-is (a .slab .now) h (l .slot)) in
-    let v : c .before .before .get-u642 .result ≡ cell (a .slab .now) (a .column) (l .slot) = cc (cell-is (a .slab .now) h (a .column) (l .slot)) in
+    let t : c .before .before .before .before .before .before .before .get-u64 .result ≡ stamp (a .slab .now) (l .slot) = c .before .before .before .before .before .before .before .get-u64 .ensures ∙ ap (get 8 (a .slab .now)) (c .before .before .before .before .before .before .before .before .stamp-place .ensures .0) ∙ stamp-is (a .slab .now) h (l .slot) in
+    let v : c .before .before .get-u642 .result ≡ cell (a .slab .now) (a .column) (l .slot) = c .before .before .get-u642 .ensures ∙ ap (get 8 (a .slab .now)) (c .before .before .before .cell-place .ensures .0) ∙ cell-is (a .slab .now) h (a .column) (l .slot) in
     (c .before .before .before .before .before .before .next-slot .ensures .1, skip-nan (a .slab .now) (a .column) (a .start) (a .end) h (l .slot) (l .left) (c .before .before .before .before .before .before .before .before .before .loop-test .taken) (l .inv .1) t (c .before .before .before .before .before .before .next-slot .ensures .0) (c .before .before .before .before .before .if1 .left) (c .before .before .before .before .if2 .left) v (c .before .is-nan .ensures) (c .if3 .taken))
 
 returns : tie.Need-returns Inv-loop μ-loop
@@ -79,8 +80,8 @@ returns c =
     let a = c .before .before .before .before .before .before .before .before .before .before .before .before .args in
     let l = c .before .before .before .before .before .before .before .before .before .before .loop in
     let h = c .before .before .before .before .before .before .before .before .before .before .before .before .pre .0 in
-    let t : c .before .before .before .before .before .before .before .get-u64 .result ≡ stamp (a .slab .now) (l .slot) = cc (stamp-is (a .slab .now) h (l .slot)) in
-    let v : c .before .before .get-u642 .result ≡ cell (a .slab .now) (a .column) (l .slot) = cc (cell-is (a .slab .now) h (a .column) (l .slot)) in
+    let t : c .before .before .before .before .before .before .before .get-u64 .result ≡ stamp (a .slab .now) (l .slot) = c .before .before .before .before .before .before .before .get-u64 .ensures ∙ ap (get 8 (a .slab .now)) (c .before .before .before .before .before .before .before .before .stamp-place .ensures .0) ∙ stamp-is (a .slab .now) h (l .slot) in
+    let v : c .before .before .get-u642 .result ≡ cell (a .slab .now) (a .column) (l .slot) = c .before .before .get-u642 .ensures ∙ ap (get 8 (a .slab .now)) (c .before .before .before .cell-place .ensures .0) ∙ cell-is (a .slab .now) h (a .column) (l .slot) in
     hand-out (a .slab .now) (a .column) (a .start) (a .end) h (l .slot) (l .left) (c .before .before .before .before .before .before .before .before .before .loop-test .taken) (l .inv .1) t (c .before .before .before .before .before .before .next-slot .ensures .0) (c .before .before .before .before .before .if1 .left) (c .before .before .before .before .if2 .left) v (c .before .is-nan .ensures) (c .if3 .left)
 
 returns-2 : tie.Need-returns-2 Inv-loop μ-loop

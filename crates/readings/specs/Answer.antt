@@ -1,0 +1,109 @@
+-- What an accepted query answers: its points are those of the tier's ring, each once, in reading order; an accepted query_auto covers the range in full exactly
+-- if some tier does, and no finer one does. Assumes nothing.
+use Prim.Native.Nat.{ℕ, zero, suc, _+_, _≤_, _<_}
+use native.Mathlib.Omega.{arith}
+use mathlib.Core.Path.{_≡_, refl, ap, _∙_}
+use mathlib.Core.Bool.{true, false}
+use mathlib.Core.List.{[], _∷_}
+use lib.Dec.{ltb}
+use lib.ListN.{length}
+use Rattle.model.specs.Image.{unless, schemas, rows, tiersOf, openCheck}
+use Rattle.model.specs.Read.{full, pointsOf}
+use Rattle.model.specs.Lent.{Lent, ring, row, rowNo, tiers, firstRow}
+use Rattle.model.specs.Record.{seriesOf, handleOk}
+use Rattle.model.specs.Query.{Answered, found, queryCheck, autoCheck, choose, answered, queryOn, query, queryAuto}
+use Rattle.laws.specs.Tests.{and-left, and-right, lt-is}
+use Rattle.rings.specs.Points.{points, reader-points}
+use Rattle.frame.specs.Checks.{first-zero, unless-zero}
+use Rattle.frame.specs.Good.{good-open, slab-sound}
+use Rattle.frame.specs.Tiers.{tier-row, some-tier}
+use Rattle.readings.specs.Choice.{covers, choice-in, some-covers, none-finer}
+
+module _ (l : Lent) (k c start end : ℕ) where
+  -- an answer is that of the tier's row, and the check has passed
+  found-is : (n j : ℕ) {a : Answered} → queryOn n l k c j start end ≡ found a → (n ≡ 0) × (a ≡ answered l (rowNo l k j) c j start end)
+  unfolding queryOn
+  found-is zero j e = (refl, cc)
+  found-is (suc n) j e = (cc, cc)
+
+  module _ (h : openCheck (l .image) ≡ 0) (ok : handleOk l k c ≡ true) where
+    bounds : (k < schemas (l .image)) × (c < seriesOf (tiersOf k (rows (l .image))))
+    unfolding handleOk tiers
+    bounds =
+        let x = ltb k (schemas (l .image)) in
+        let y = ltb c (seriesOf (tiersOf k (rows (l .image)))) in
+        (lt-is k (schemas (l .image)) (and-left x y ok), lt-is c (seriesOf (tiersOf k (rows (l .image)))) (and-right x y ok))
+
+    -- the points of tier j's reader
+    tier-points : (j : ℕ) → j < length (tiers l k) → pointsOf (answered l (rowNo l k j) c j start end .reader) ≡ points (ring l (rowNo l k j)) c start end
+    unfolding answered rowNo tiers ring row
+    tier-points j p =
+        let g = good-open (l .image) h in
+        let t = tier-row (l .image) (g .shape-is) k j p in
+        let i = firstRow k (rows (l .image)) + j in
+        reader-points (ring l i) (slab-sound (l .image) g i (t .there)) c start end (rw (t .series-is) at (bounds .1))
+
+  -- ---- query
+
+  module _ (j : ℕ) {a : Answered} (e : query l k c j start end ≡ found a) where
+    query-found : (queryCheck l k c j start end ≡ 0) × (a ≡ answered l (rowNo l k j) c j start end)
+    unfolding query
+    query-found = found-is (queryCheck l k c j start end) j e
+
+    pub query-points : pointsOf (a .reader) ≡ points (ring l (rowNo l k j)) c start end
+    unfolding queryCheck
+    query-points =
+        let x = unless (ltb j (length (tiers l k))) 14 in
+        let y = unless (ltb start end) 15 in
+        let p = first-zero (openCheck (l .image)) (unless (handleOk l k c) 11 ∷ x ∷ y ∷ []) (query-found .0) in
+        let q = first-zero (unless (handleOk l k c) 11) (x ∷ y ∷ []) (p .1) in
+        let t = first-zero x (y ∷ []) (q .1) in
+        ap (λ (b : Answered). pointsOf (b .reader)) (query-found .1)
+        ∙ tier-points (p .0) (unless-zero (handleOk l k c) 10 (q .0)) j (lt-is j (length (tiers l k)) (unless-zero (ltb j (length (tiers l k))) 13 (t .0)))
+
+  -- ---- query_auto
+
+  module _ {a : Answered} (e : queryAuto l k c start end ≡ found a) where
+    auto-found : (autoCheck l k c start end ≡ 0) × (a ≡ answered l (rowNo l k (choose l k start end)) c (choose l k start end) start end)
+    unfolding queryAuto
+    auto-found = found-is (autoCheck l k c start end) (choose l k start end) e
+
+    pub auto-tier : a .tier ≡ choose l k start end
+    unfolding answered
+    auto-tier = ap (λ (b : Answered). b .tier) (auto-found .1)
+
+    passed : (openCheck (l .image) ≡ 0) × (handleOk l k c ≡ true)
+    unfolding autoCheck
+    passed =
+        let y = unless (ltb start end) 15 in
+        let p = first-zero (openCheck (l .image)) (unless (handleOk l k c) 11 ∷ y ∷ []) (auto-found .0) in
+        let q = first-zero (unless (handleOk l k c) 11) (y ∷ []) (p .1) in
+        (p .0, unless-zero (handleOk l k c) 10 (q .0))
+
+    -- the schema has a tier, so the chosen one is there
+    pub auto-there : a .tier < length (tiers l k)
+    auto-there =
+        let g = good-open (l .image) (passed .0) in
+        let some : 0 < length (tiers l k) = unfold tiers in (some-tier (l .image) (g .shape-is) (g .layout-is) k (bounds (passed .0) (passed .1) .0)) in
+        rw auto-tier (choice-in l k start end some)
+
+    pub auto-points : pointsOf (a .reader) ≡ points (ring l (rowNo l k (a .tier))) c start end
+    auto-points =
+        ap (λ (b : Answered). pointsOf (b .reader)) (auto-found .1)
+        ∙ tier-points (passed .0) (passed .1) (choose l k start end) (rw auto-tier at auto-there)
+        ∙ rw auto-tier
+
+    -- the answer covers the range in full if the chosen tier does
+    pub auto-covers : full (a .oldest) (a .newest) start end ≡ covers l k start end (a .tier)
+    unfolding answered
+    auto-covers = ap (λ (b : Answered). full (b .oldest) (b .newest) start end) (auto-found .1) ∙ rw auto-tier
+
+    -- and some tier covers it only then; the answer's tier is no coarser
+    pub auto-full : (j : ℕ) → j < length (tiers l k) → covers l k start end j ≡ true → (full (a .oldest) (a .newest) start end ≡ true) × (a .tier ≤ j)
+    auto-full j p q =
+        let r = some-covers l k start end j p q in
+        (auto-covers ∙ rw auto-tier (r .0), rw auto-tier (r .1))
+
+    -- no finer tier covers it
+    pub auto-finest : (j : ℕ) → j < a .tier → covers l k start end j ≡ false
+    auto-finest j p = none-finer l k start end j (rw auto-tier at p) (omega (arith, auto-there))

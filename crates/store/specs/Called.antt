@@ -1,0 +1,56 @@
+-- The promise of a call that changes what it was lent: its reply, and image and flags after it, are the model's; and how the by-value cores' promises give it.
+-- Assumes nothing.
+use Prim.Native.Nat.{ℕ}
+use mathlib.Core.Path.{_≡_, refl, _∙_, ap}
+use mathlib.Core.List.{List}
+use Rattle.model.specs.declared.Refusal.{Refusal}
+use Rattle.model.specs.declared.Refusal.the-variants.{BadImage, NoTiers, InvalidMaxSeries, InvalidTierConfig, TooManySlots, TiersNotOrdered, ConsolidationOnHighestTier, LayoutTooLarge, ShortBuffer, CorruptedSlab, InvalidHandle, InvalidValue, InvalidTimestamp, InvalidTier, InvalidTimeRange, NoConsolidationFunction}
+use Rattle.model.specs.declared.Outcome.{Outcome}
+use Rattle.model.specs.declared.Outcome.the-variants as O
+use Rattle.model.specs.Words.{numberOf, outcomeNo}
+use Rattle.model.specs.Lent.{Lent}
+use Rattle.model.specs.Record.{Entry}
+use Rattle.model.specs.Store.{Call, recordCall, batchCall, Reply, refused, doneOr, call, outcomeReply}
+use Rattle.record.specs.Done.{RecordDone}
+use Rattle.batch.specs.Done.{BatchDone}
+
+-- call c on l answers `reply` and leaves `after`
+pub record Called (l : Lent) (c : Call) (reply : Reply) (after : Lent) : Type 0 where
+  pub reply-is : reply ≡ call l c .reply
+  pub lent-is : after ≡ call l c .lent
+
+-- ---- from a check's number to the reply
+
+refused-reply : (r : Refusal) → refused (numberOf r) ≡ doneOr (numberOf r)
+unfolding doneOr
+refused-reply BadImage = refl
+refused-reply NoTiers = refl
+refused-reply InvalidMaxSeries = refl
+refused-reply InvalidTierConfig = refl
+refused-reply TooManySlots = refl
+refused-reply TiersNotOrdered = refl
+refused-reply ConsolidationOnHighestTier = refl
+refused-reply LayoutTooLarge = refl
+refused-reply ShortBuffer = refl
+refused-reply CorruptedSlab = refl
+refused-reply InvalidHandle = refl
+refused-reply InvalidValue = refl
+refused-reply InvalidTimestamp = refl
+refused-reply InvalidTier = refl
+refused-reply InvalidTimeRange = refl
+refused-reply NoConsolidationFunction = refl
+
+outcome-reply : (o : Outcome) → outcomeReply o ≡ doneOr (outcomeNo o)
+unfolding doneOr outcomeReply
+outcome-reply O.Accepted = refl
+outcome-reply (O.Refused r) = refused-reply r
+
+-- ---- the cores' promises
+
+pub record-called : {l : Lent} {k c v t : ℕ} (o : Outcome) {after : Lent} → RecordDone l k c v t (outcomeNo o) after → Called l (recordCall k c v t) (outcomeReply o) after
+unfolding call
+record-called o d = record { reply-is = outcome-reply o ∙ ap doneOr (d .answer-is); lent-is = d .lent-is }
+
+pub batch-called : {l : Lent} {es : List Entry} {t : ℕ} (o : Outcome) {after : Lent} → BatchDone l es t (outcomeNo o) after → Called l (batchCall es t) (outcomeReply o) after
+unfolding call
+batch-called o d = record { reply-is = outcome-reply o ∙ ap doneOr (d .answer-is); lent-is = d .lent-is }
