@@ -1,0 +1,101 @@
+-- How the cores' contracts become the edge's: the flags cross as a number, a call's outcome is a step of the model's `call`; what a good plan's check says
+-- of its size. Assumes nothing.
+use Prim.Native.Nat.{ℕ, zero, suc, _≤_}
+use native.Mathlib.Omega.{arith}
+use mathlib.Core.Path.{_≡_, refl, sym, ap, _∙_}
+use mathlib.Core.List.{List, [], _∷_}
+use Rattle.model.specs.declared.Flags.{Flags}
+use Rattle.model.specs.declared.Next.the-variants.{Handed, Finished}
+use Rattle.model.specs.declared.Point.{Point}
+use Rattle.model.specs.declared.Stepped.{Stepped}
+use Rattle.model.specs.declared.Queried.{Queried}
+use Rattle.model.specs.declared.Queried.the-variants as Q
+use Rattle.model.specs.declared.Found.{Found}
+use Rattle.model.specs.declared.Refusal.{Refusal}
+use Rattle.model.specs.Words.{numberOf}
+use Rattle.model.specs.Query.{QueryReply, repliedBy}
+use Rattle.model.specs.Lent.{Lent}
+use Rattle.model.specs.Record.{Entry}
+use Rattle.model.specs.Store.{Call, Done, call, recordCall, batchCall}
+use Rattle.lent.specs.Parts.{lentOf}
+use Rattle.record.specs.Done.{RecordDone}
+use Rattle.batch.specs.Done.{BatchDone}
+use Rattle.bits.specs.Bits.{bits, bitOf}
+use Rattle.edge.specs.Edge.{lentAt, doneAs, unlessRefused, endNo, foundWords, queryNo, queryWords, queriedNo, queriedWords, placeWords, nextNo, pointWords}
+
+-- ---- the flags cross as a number
+
+-- what is lent
+pub lent-in : (s : List ℕ) (f : Flags) (x : ℕ) → f .wrapped ≡ bits 32 x → lentOf s f ≡ lentAt s x
+lent-in s f x e = ap (λ w. record { image = s; flags = w }) e
+
+-- what is left
+pub lent-out : (s : List ℕ) (f : Flags) (x : ℕ) → bits 32 x ≡ f .wrapped → lentAt s x ≡ lentOf s f
+lent-out s f x e = ap (λ w. record { image = s; flags = w }) e
+
+-- a call's outcome, with the answer's number m
+pub crossed : (s t : List ℕ) (f g : Flags) (x y m n : ℕ) (q : Call) → f .wrapped ≡ bits 32 x → bits 32 y ≡ g .wrapped → m ≡ n
+    → doneAs n (lentOf t g) ≡ call (lentOf s f) q → doneAs m (lentAt t y) ≡ call (lentAt s x) q
+crossed s t f g x y m n q into out number e = rw (number, lent-out t g y out, ← lent-in s f x into) e
+
+-- ---- a call's outcome
+
+pub record-call : (l a : Lent) (k c v t n : ℕ) → RecordDone l k c v t n a → doneAs n a ≡ call l (recordCall k c v t)
+unfolding call
+record-call l a k c v t n d = rw (d .answer-is, d .lent-is)
+
+pub batch-call : (l a : Lent) (es : List Entry) (t n : ℕ) → BatchDone l es t n a → doneAs n a ≡ call l (batchCall es t)
+unfolding call
+batch-call l a es t n d = rw (d .answer-is, d .lent-is)
+
+-- ---- a number that a refusal leaves
+
+pub left-alone : (n old new : ℕ) → (n ≡ 0 → ⊥) → old ≡ unlessRefused n old new
+unfolding unlessRefused
+left-alone zero old new h = absurd (h refl)
+left-alone (suc n) old new h = refl
+
+pub set-anew : (n old new : ℕ) → n ≡ 0 → new ≡ unlessRefused n old new
+unfolding unlessRefused
+set-anew n old new h = rw h
+
+-- ---- a query's answer, as the code has it and as the model has it
+
+pub query-no : (s : List ℕ) (q : Queried) → queriedNo q ≡ queryNo (repliedBy s q)
+unfolding queriedNo queryNo repliedBy
+query-no s (Q.Answer f) = refl
+query-no s (Q.Refused r) = refl
+
+pub query-words : (s : List ℕ) (q : Queried) (old : List ℕ) → queriedWords q old ≡ queryWords (repliedBy s q) old
+unfolding queriedWords queryWords repliedBy
+query-words s (Q.Answer f) old = refl
+query-words s (Q.Refused r) old = refl
+
+pub words-of : (f : Found) (o n i : ℕ) → o ≡ endNo (f .oldest) → n ≡ endNo (f .newest) → i ≡ bitOf (f .incomplete)
+    → f .tier ∷ o ∷ n ∷ f .start ∷ f .end ∷ i ∷ f .column ∷ f .from ∷ f .to ∷ f .place .slot ∷ f .place .left ∷ [] ≡ foundWords f
+words-of f o n i p q r = rw (p, q, r)
+
+-- the number m and the numbers u of an answer q, which is the model's a
+pub asked : (s : List ℕ) (q : Queried) (m : ℕ) (u old : List ℕ) (a : QueryReply) → m ≡ queriedNo q → u ≡ queriedWords q old → repliedBy s q ≡ a
+    → (m ≡ queryNo a) × (u ≡ queryWords a old)
+asked s q m u old a e h r = (e ∙ query-no s q ∙ ap queryNo r, h ∙ query-words s q old ∙ ap (λ x. queryWords x old) r)
+
+pub answer-stored : (q : Queried) (f : Found) (w old : List ℕ) → q ≡ Q.Answer f → w ≡ foundWords f → (0 ≡ queriedNo q) × (w ≡ queriedWords q old)
+unfolding queriedNo queriedWords
+answer-stored q f w old e h = rw e (refl, h)
+
+pub query-refused : (q : Queried) (r : Refusal) (m : ℕ) (old : List ℕ) → q ≡ Q.Refused r → m ≡ numberOf r → (m ≡ queriedNo q) × (old ≡ queriedWords q old)
+unfolding queriedNo queriedWords
+query-refused q r m old e h = rw e (h, refl)
+
+-- ---- a step of the reader
+
+pub step-handed : (r d : Stepped) (p : Point) (old : List ℕ) → r ≡ d → r .next ≡ Handed p
+    → (1 ≡ nextNo (d .next)) × (placeWords (r .place) ≡ placeWords (d .place)) × (p .stamp ∷ p .value ∷ [] ≡ pointWords (d .next) old)
+unfolding nextNo pointWords
+step-handed r d p old e h = rw (← e, h) (refl, refl, refl)
+
+pub step-finished : (r d : Stepped) (old : List ℕ) → r ≡ d → r .next ≡ Finished
+    → (0 ≡ nextNo (d .next)) × (placeWords (r .place) ≡ placeWords (d .place)) × (old ≡ pointWords (d .next) old)
+unfolding nextNo pointWords
+step-finished r d old e h = rw (← e, h) (refl, refl, refl)

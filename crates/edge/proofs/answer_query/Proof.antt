@@ -1,0 +1,34 @@
+-- `edge::answer_query` meets its contract, by cases on the answer. Assumes nothing.
+use Rattle.edge.proofs.Laws.{answer-stored, query-refused}
+use borrow.Author.Needs.{needs}
+use Rattle.edge.proofs.answer_query.Statement.{statement}
+use Rattle.edge.proofs.answer_query.Tie as tie
+
+enum-known-reply : tie.Need-enum-known-reply
+enum-known-reply c = search needs
+
+found-words-requires : tie.Need-found-words-requires
+found-words-requires c κs = search needs
+
+enum-known-reply-2 : tie.Need-enum-known-reply-2
+enum-known-reply-2 c = search needs
+
+refusal-number-requires : tie.Need-refusal-number-requires
+refusal-number-requires c κs = search needs
+
+returns : tie.Need-returns
+returns c = answer-stored _ _ _ (c .before .before .before .before .args .answer .now) (c .before .before .reply .given .1) (c .found-words .ensures)
+
+returns-2 : tie.Need-returns-2
+returns-2 c = query-refused _ _ _ (c .before .before .before .before .args .answer .now) (c .before .before .reply2 .given .1) (c .refusal-number .ensures)
+
+pub answer-query-spec : {M : Type 1} → statement M
+answer-query-spec =
+    tie.close
+    (tie.spec
+    enum-known-reply
+    found-words-requires
+    enum-known-reply-2
+    refusal-number-requires
+    returns
+    returns-2)

@@ -1,0 +1,34 @@
+-- `edge::found_words` meets its contract: each number by its own function. Assumes nothing.
+use Rattle.edge.proofs.Laws.{words-of}
+use borrow.Author.Needs.{needs}
+use Rattle.edge.proofs.found_words.Statement.{statement}
+use Rattle.edge.proofs.found_words.Tie as tie
+
+end-number-requires : tie.Need-end-number-requires
+end-number-requires c κs = search needs
+
+end-number-requires-2 : tie.Need-end-number-requires-2
+end-number-requires-2 c κs = search needs
+
+bool-number-requires : tie.Need-bool-number-requires
+bool-number-requires c κs = search needs
+
+cast-t8 : tie.Need-cast-t8
+cast-t8 c = search needs
+
+cast-t9 : tie.Need-cast-t9
+cast-t9 c = search needs
+
+returns : tie.Need-returns
+returns c = words-of (c .before .before .before .before .before .before .args .f) _ _ _ (c .before .before .before .before .before .end-number .ensures) (c .before .before .before .before .end-number2 .ensures) (c .before .before .before .bool-number .ensures)
+
+pub found-words-spec : {M : Type 1} → statement M
+found-words-spec =
+    tie.close
+    (tie.spec
+    end-number-requires
+    end-number-requires-2
+    bool-number-requires
+    cast-t8
+    cast-t9
+    returns)

@@ -1,0 +1,237 @@
+// The calls as programs in C and in Rust link them (include/rondo.h): numbers and byte slices alone. The flags are one number, bit i row i's flag, so every
+// number can be lent. Each answers 0, or document 01's number of its refusal. No caller tests anything first.
+ghost use mathlib.Core.Path.{_≡_};
+ghost use Rattle.model.specs.Words.{outcomeNo};
+ghost use Rattle.model.specs.Image.{planCheck, imageLength, createCheck, openCheck};
+ghost use Rattle.model.specs.Lent.{creation, opening};
+ghost use Rattle.model.specs.Record.{entries};
+ghost use Rattle.model.specs.Query.{query, queryAuto};
+ghost use Rattle.model.specs.Store.{call, recordCall, batchCall};
+ghost use Rattle.bits.specs.Bits.{bitOf};
+ghost use Rattle.edge.specs.Edge.{lentAt, doneAs, unlessRefused, endNo, foundWords, queriedNo, queriedWords, queryNo, queryWords, stepAt, placeWords, nextNo, pointWords};
+
+// The number of an answer: 0, or the refusal's.
+fn outcome_number(outcome: model::Outcome) -> u32
+    ensures { λ n. ⌜ n ≡ outcomeNo outcome ⌝ }
+{
+    match outcome {
+        model::Outcome::Accepted => 0,
+        model::Outcome::Refused(r) => model::refusal_number(r),
+    }
+}
+
+// The size of the image that a plan needs. A refused plan leaves `size`.
+#[no_mangle]
+pub extern "C" fn rondo_image_size(plan: &[u8], size: &mut u64) -> u32
+    ensures { λ r. ⌜ (r ≡ planCheck (now (plan .entry))) × (now (size .exit) ≡ unlessRefused (planCheck (now (plan .entry))) (now (size .entry)) (imageLength (now (plan .entry)))) ⌝ }
+{
+    let checked = image::check_plan(plan);
+    let model::Outcome::Accepted = checked else {
+        return outcome_number(checked);
+    };
+    *size = image::length_of(plan);
+    0
+}
+
+// Creates a plan's image at the start of `image`. The first flags become false, one a row; later bytes and flags stay.
+#[no_mangle]
+pub extern "C" fn rondo_create(plan: &[u8], image: &mut [u8], flags: &mut u32) -> u32
+    ensures answer { λ r. ⌜ r ≡ createCheck (now (plan .entry)) (now (image .entry)) ⌝ }
+    ensures left { λ r. ⌜ lentAt (now (image .exit)) (now (flags .exit)) ≡ creation (now (plan .entry)) (lentAt (now (image .entry)) (now (flags .entry))) ⌝ }
+{
+    let wrapped = bits::flags_of(*flags);
+    let done = create::create(plan, image, wrapped);
+    let created = done.flags;
+    *flags = bits::number_of(created);
+    let outcome = done.outcome;
+    outcome_number(outcome)
+}
+
+// Checks an image and works out the flags of its rows. Flags past them stay.
+#[no_mangle]
+pub extern "C" fn rondo_open(image: &[u8], flags: &mut u32) -> u32
+    ensures answer { λ r. ⌜ r ≡ openCheck (now (image .entry)) ⌝ }
+    ensures left { λ r. ⌜ lentAt (now (image .entry)) (now (flags .exit)) ≡ opening (lentAt (now (image .entry)) (now (flags .entry))) ⌝ }
+{
+    let wrapped = bits::flags_of(*flags);
+    let done = open::open(image, wrapped);
+    let opened = done.flags;
+    *flags = bits::number_of(opened);
+    let outcome = done.outcome;
+    outcome_number(outcome)
+}
+
+// Records one value, given by its 64-bit pattern.
+#[no_mangle]
+pub extern "C" fn rondo_record(
+    image: &mut [u8],
+    flags: &mut u32,
+    schema: u32,
+    column: u32,
+    value: u64,
+    stamp: u64,
+) -> u32
+    ensures { λ r. ⌜ doneAs r (lentAt (now (image .exit)) (now (flags .exit))) ≡ call (lentAt (now (image .entry)) (now (flags .entry))) (recordCall schema column value stamp) ⌝ }
+{
+    let handle = model::SeriesHandle {
+        schema: schema,
+        column: column,
+    };
+    let wrapped = bits::flags_of(*flags);
+    let done = record::record(image, wrapped, handle, value, stamp);
+    let recorded = done.flags;
+    *flags = bits::number_of(recorded);
+    let outcome = done.outcome;
+    outcome_number(outcome)
+}
+
+// Records a batch of values at one stamp: 16 bytes an entry, schema u32, column u32, value u64.
+#[no_mangle]
+pub extern "C" fn rondo_record_batch(
+    image: &mut [u8],
+    flags: &mut u32,
+    batch: &[u8],
+    stamp: u64,
+) -> u32
+    ensures { λ r. ⌜ doneAs r (lentAt (now (image .exit)) (now (flags .exit))) ≡ call (lentAt (now (image .entry)) (now (flags .entry))) (batchCall (entries (now (batch .entry))) stamp) ⌝ }
+{
+    let wrapped = bits::flags_of(*flags);
+    let done = batch::record_batch(image, wrapped, batch, stamp);
+    let batched = done.flags;
+    *flags = bits::number_of(batched);
+    let outcome = done.outcome;
+    outcome_number(outcome)
+}
+
+// An end's stamp; 0 where it is missing.
+fn end_number(end: model::End) -> u64
+    ensures { λ r. ⌜ r ≡ endNo end ⌝ }
+{
+    match end {
+        model::End::At(t) => t,
+        model::End::Missing => 0,
+    }
+}
+
+// A bool as a number.
+fn bool_number(b: bool) -> u64
+    ensures { λ r. ⌜ r ≡ bitOf b ⌝ }
+{
+    if b { 1 } else { 0 }
+}
+
+// A query's answer as numbers.
+fn found_words(f: model::Found) -> [u64; 11]
+    ensures { λ r. ⌜ r ≡ foundWords f ⌝ }
+{
+    let first = f.oldest;
+    let oldest = end_number(first);
+    let last = f.newest;
+    let newest = end_number(last);
+    let incomplete = bool_number(f.incomplete);
+    let place = f.place;
+    [
+        f.tier as u64,
+        oldest,
+        newest,
+        f.start,
+        f.end,
+        incomplete,
+        f.column as u64,
+        f.from as u64,
+        f.to as u64,
+        place.slot as u64,
+        place.left as u64,
+    ]
+}
+
+// Stores a query's answer, and answers its number.
+fn answer_query(reply: model::Queried, answer: &mut [u64; 11]) -> u32
+    ensures { λ r. ⌜ (r ≡ queriedNo reply) × (now (answer .exit) ≡ queriedWords reply (now (answer .entry))) ⌝ }
+{
+    match reply {
+        model::Queried::Answer(f) => {
+            *answer = found_words(f);
+            0
+        }
+        model::Queried::Refused(r) => model::refusal_number(r),
+    }
+}
+
+// Looks a series up in a tier, for the points from `start` up to `end`.
+#[no_mangle]
+pub extern "C" fn rondo_query(
+    image: &[u8],
+    flags: u32,
+    schema: u32,
+    column: u32,
+    tier: u32,
+    start: u64,
+    end: u64,
+    answer: &mut [u64; 11],
+) -> u32
+    ensures number { λ r. ⌜ r ≡ queryNo (query (lentAt (now (image .entry)) flags) schema column tier start end) ⌝ }
+    ensures words { λ r. ⌜ now (answer .exit) ≡ queryWords (query (lentAt (now (image .entry)) flags) schema column tier start end) (now (answer .entry)) ⌝ }
+{
+    let handle = model::SeriesHandle {
+        schema: schema,
+        column: column,
+    };
+    let wrapped = bits::flags_of(flags);
+    let reply = query::query(image, wrapped, handle, tier, start, end);
+    answer_query(reply, answer)
+}
+
+// Looks a series up in the tier that covers the range best.
+#[no_mangle]
+pub extern "C" fn rondo_query_auto(
+    image: &[u8],
+    flags: u32,
+    schema: u32,
+    column: u32,
+    start: u64,
+    end: u64,
+    answer: &mut [u64; 11],
+) -> u32
+    ensures number { λ r. ⌜ r ≡ queryNo (queryAuto (lentAt (now (image .entry)) flags) schema column start end) ⌝ }
+    ensures words { λ r. ⌜ now (answer .exit) ≡ queryWords (queryAuto (lentAt (now (image .entry)) flags) schema column start end) (now (answer .entry)) ⌝ }
+{
+    let handle = model::SeriesHandle {
+        schema: schema,
+        column: column,
+    };
+    let wrapped = bits::flags_of(flags);
+    let reply = query::query_auto(image, wrapped, handle, start, end);
+    answer_query(reply, answer)
+}
+
+// One step of a query's reader over its slab, which is the part of the image that the answer names: 1 for a point, 0 at the end, which leaves `point`.
+#[no_mangle]
+pub extern "C" fn rondo_next(
+    slab: &[u8],
+    column: u32,
+    start: u64,
+    end: u64,
+    place: &mut [usize; 2],
+    point: &mut [u64; 2],
+) -> u32
+    ensures answer { λ r. ⌜ r ≡ nextNo (stepAt (now (slab .entry)) column start end (now (place .entry)) .next) ⌝ }
+    ensures moved { λ r. ⌜ now (place .exit) ≡ placeWords (stepAt (now (slab .entry)) column start end (now (place .entry)) .place) ⌝ }
+    ensures handed { λ r. ⌜ now (point .exit) ≡ pointWords (stepAt (now (slab .entry)) column start end (now (place .entry)) .next) (now (point .entry)) ⌝ }
+{
+    let from = model::Place {
+        slot: place[0],
+        left: place[1],
+    };
+    let stepped = reader::step(slab, column, start, end, from);
+    let to = stepped.place;
+    *place = [to.slot, to.left];
+    let next = stepped.next;
+    match next {
+        model::Next::Handed(p) => {
+            *point = [p.stamp, p.value];
+            1
+        }
+        model::Next::Finished => 0,
+    }
+}

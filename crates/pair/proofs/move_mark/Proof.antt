@@ -1,0 +1,59 @@
+-- `pair::move_mark` meets its contract, one case a return. Assumes nothing.
+use native.Mathlib.Omega.{arith}
+use mathlib.Core.Path.{sym, ap, _∙_}
+use Rattle.model.specs.Words.{outcomeNo}
+use Rattle.model.specs.Image.{rowPlace}
+use Rattle.rows.specs.First.{refusal-no}
+use Rattle.pair.proofs.Laws.{mark-refused, mark-unmoved, mark-moved}
+use borrow.Author.Needs.{needs}
+use Rattle.pair.proofs.move_mark.Statement.{statement}
+use Rattle.pair.proofs.move_mark.Tie as tie
+
+enum-told : tie.Need-enum-told
+enum-told c = search needs
+
+enum-told-2 : tie.Need-enum-told-2
+enum-told-2 c = search needs
+
+returns : tie.Need-returns
+returns c = let a = c .before .before .before .args in mark-refused (a .image .now) (a .row) (a .stamp) (a .writes) (a .outcome) (λ z. refusal-no (c .enum-told2 .given .0 .0) (sym (ap outcomeNo (c .enum-told2 .given .1)) ∙ z))
+
+returns-2 : tie.Need-returns-2
+returns-2 c = let a = c .before .before .before .before .args in mark-unmoved (a .image .now) (a .row) (a .stamp) (a .writes) (a .outcome) (c .if1 .taken)
+
+mul-put-u64 : tie.Need-mul-put-u64
+unfolding rowPlace
+mul-put-u64 c = omega (arith, c .before .before .before .before .before .pre, c .before .before .before .before .before .good .0 .0)
+
+add-put-u64 : tie.Need-add-put-u64
+unfolding rowPlace
+add-put-u64 c = omega (arith, c .before .before .before .before .before .pre, c .before .before .before .before .before .good .0 .0)
+
+add-put-u64-2 : tie.Need-add-put-u64-2
+unfolding rowPlace
+add-put-u64-2 c = omega (arith, c .before .before .before .before .before .pre, c .before .before .before .before .before .good .0 .0)
+
+put-u64-requires : tie.Need-put-u64-requires
+unfolding rowPlace
+put-u64-requires c κs = omega (arith, c .before .before .before .before .before .pre)
+
+same-length : tie.Need-same-length
+same-length c = search needs
+
+returns-3 : tie.Need-returns-3
+returns-3 c = let a = c .before .before .before .before .before .before .before .before .args in mark-moved (a .image .now) (a .row) (a .stamp) (a .writes) (a .outcome) (c .before .before .before .before .before .enum-told .given .1) (c .before .before .before .before .if1 .left) (c .before .before .put-u64 .ensures)
+
+pub move-mark-spec : {M : Type 1} → statement M
+move-mark-spec =
+    tie.close
+    (tie.spec
+    enum-told
+    enum-told-2
+    returns
+    returns-2
+    mul-put-u64
+    add-put-u64
+    add-put-u64-2
+    put-u64-requires
+    same-length
+    returns-3)

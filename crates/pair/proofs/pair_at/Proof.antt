@@ -1,0 +1,58 @@
+-- `pair::pair_at` meets its contract: both slabs are the rows', and the reading is of the source's. Assumes nothing.
+use native.Mathlib.Omega.{arith}
+use native.Mathlib.Numerals.{add-one}
+use mathlib.Core.Path.{_∙_}
+use Rattle.model.specs.Bytes.{part}
+use Rattle.model.specs.Image.{rowPlace}
+use Rattle.pair.proofs.Rows.{row-inside, mark-low, interval-low, slab-part, stamps-part, pair-at}
+use borrow.Author.Needs.{needs}
+use Rattle.pair.proofs.pair_at.Statement.{statement}
+use Rattle.pair.proofs.pair_at.Tie as tie
+
+slab-at-requires : tie.Need-slab-at-requires
+slab-at-requires c κs = search needs
+
+add-slab-at : tie.Need-add-slab-at
+add-slab-at c = search needs
+
+slab-at-requires-2 : tie.Need-slab-at-requires-2
+slab-at-requires-2 c κs = search needs
+
+row-at-requires : tie.Need-row-at-requires
+unfolding rowPlace
+row-at-requires c κs = let a = c .before .before .before .args in row-inside (a .image .now) (a .row) (c .before .before .before .pre .0) (a .row) (omega arith)
+
+flag-requires : tie.Need-flag-requires
+flag-requires c κs = search needs
+
+sub-reading-of : tie.Need-sub-reading-of
+sub-reading-of c = search needs
+
+part-reading-of-start : tie.Need-part-reading-of-start
+part-reading-of-start c = search needs
+
+part-reading-of-end : tie.Need-part-reading-of-end
+part-reading-of-end c = search needs
+
+reading-of-requires : tie.Need-reading-of-requires
+unfolding part
+reading-of-requires c κs = let a = c .before .before .before .before .before .before .args in let d = c .before .before .before .before .slab-at .ensures in (rw (slab-part d) (d .sound), (rw (c .before .before .row-at .ensures) (mark-low (a .image .now) (a .row) (c .before .before .before .before .before .before .pre .0)), rw (d .interval-is) (interval-low (a .image .now) (a .row) (c .before .before .before .before .before .before .pre .0)), stamps-part d ∙ c .before .before .before .before .before .before .pre .1))
+
+returns : tie.Need-returns
+unfolding part
+returns c = let a = c .before .before .before .before .before .before .before .args in pair-at (a .image .now) (a .row) (c .before .before .before .before .before .before .before .pre .0) (a .flags) (a .f) (c .before .before .before .before .before .slab-at .ensures) (rw (add-one (a .row)) at (c .before .before .before .before .slab-at2 .ensures)) (c .before .before .flag .ensures) (rw (c .before .before .before .row-at .ensures) at (c .reading-of .ensures .0)) (c .reading-of .ensures .1)
+
+pub pair-at-spec : {M : Type 1} → statement M
+pair-at-spec =
+    tie.close
+    (tie.spec
+    slab-at-requires
+    add-slab-at
+    slab-at-requires-2
+    row-at-requires
+    flag-requires
+    sub-reading-of
+    part-reading-of-start
+    part-reading-of-end
+    reading-of-requires
+    returns)

@@ -1,0 +1,22 @@
+-- `source::reading_of` meets its contract: start and end are the definition's, and the end fits, as every stamp is below 2^63. Assumes nothing.
+use Rattle.ring.specs.Parts.{sized}
+use Rattle.source.specs.Parts.{readingOf}
+use Rattle.source.proofs.Laws.{newest-is-low}
+use Rattle.source.proofs.reading_of.Statement.{statement}
+use Rattle.source.proofs.reading_of.Tie as tie
+
+newest-requires : tie.Need-newest-requires
+newest-requires c κs = sized (c .before .pre .0)
+
+end-after-requires : tie.Need-end-after-requires
+end-after-requires c κs = rw (c .newest .ensures) (newest-is-low (sized (c .before .before .pre .0)) (c .before .before .args .wrapped) (c .before .before .pre .1 .2))
+
+start-of-requires : tie.Need-start-of-requires
+start-of-requires c κs = (c .before .before .before .pre .0, (c .before .before .before .pre .1 .0, c .before .before .before .pre .1 .1))
+
+returns : tie.Need-returns
+unfolding readingOf
+returns c = (rw (c .before .end-after .ensures .0, c .before .before .newest .ensures, c .start-of .ensures), c .before .end-after .ensures .1)
+
+pub reading-of-spec : {M : Type 1} → statement M
+reading-of-spec = tie.close (tie.spec newest-requires end-after-requires start-of-requires returns)

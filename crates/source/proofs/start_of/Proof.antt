@@ -1,0 +1,24 @@
+-- `source::start_of` meets its contract, one case a return. Assumes nothing.
+use Rattle.ring.specs.Parts.{sized, ringOf}
+use Rattle.source.proofs.Laws.{start-mark, start-oldest}
+use borrow.Author.Needs.{needs}
+use Rattle.source.proofs.start_of.Statement.{statement}
+use Rattle.source.proofs.start_of.Tie as tie
+
+add-result : tie.Need-add-result
+add-result c = search needs
+
+returns : tie.Need-returns
+returns c = let a = c .before .before .before .args in start-mark (a .mark) (a .d .interval) (ringOf (a .slab .now) (a .wrapped)) (c .before .if1 .taken)
+
+oldest-requires : tie.Need-oldest-requires
+oldest-requires c κs = sized (c .before .before .pre .0)
+
+or-zero-requires : tie.Need-or-zero-requires
+or-zero-requires c κs = search needs
+
+returns-2 : tie.Need-returns-2
+returns-2 c = let a = c .before .before .before .before .args in start-oldest (a .mark) (a .d .interval) (ringOf (a .slab .now) (a .wrapped)) (c .before .before .if1 .left) (c .before .oldest .ensures) (c .or-zero .ensures)
+
+pub start-of-spec : {M : Type 1} → statement M
+start-of-spec = tie.close (tie.spec add-result returns oldest-requires or-zero-requires returns-2)

@@ -1,0 +1,22 @@
+-- The word of the source's contract: the reading of a source slab. Assumes nothing.
+use Prim.Native.Nat.{ℕ}
+use mathlib.Core.Bool.{Bool}
+use mathlib.Core.List.{List}
+use Rattle.model.specs.declared.ConsolidationFn.{ConsolidationFn}
+use Rattle.model.specs.Ring.{newest}
+use Rattle.model.specs.Consolidate.{startOf, endAfter}
+use Rattle.ring.specs.Parts.{ringOf}
+use Rattle.lent.specs.declared.Slab.{Slab}
+use Rattle.window.specs.declared.Reading.{Reading}
+
+-- of the slab s of a row d, for windows of this length
+unfoldable pub readingOf : List ℕ → Slab → Bool → (mark : ℕ) → ConsolidationFn → (long : ℕ) → Reading
+readingOf s d w mark f long = record {
+  slots = d .slots;
+  series = d .series;
+  wrapped = w;
+  function = f;
+  long = long;
+  start = startOf mark (d .interval) (ringOf s w);
+  end = endAfter (newest (ringOf s w));
+}
