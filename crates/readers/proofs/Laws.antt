@@ -1,7 +1,7 @@
 -- A part that is cut short by the list's end: what `part` hands back where its bounds are no bounds of the slice. Assumes nothing.
 use Prim.Native.Nat.{ℕ, _+_, _-_, _≤_}
 use native.Mathlib.Omega.{arith}
-use mathlib.Core.Path.{_≡_, refl, sym, ap, _∙_}
+use mathlib.Core.Path.{_≡_, sym, ap, _∙_}
 use mathlib.Core.List.{List, []}
 use lib.ListN.{length, take, drop, length-drop}
 use lib.Seq.{take-all, take-nil, drop-nil, drop-length, drop-drop}

@@ -1,6 +1,5 @@
 -- What a reader's next call hands out and where the reader stands then, by the model's step; the reader as the model has it. Assumes nothing.
 use denote.Ref.{now}
-use Rattle.model.specs.declared.Place.{Place}
 use Rattle.model.specs.declared.Stepped.{Stepped}
 use Rattle.model.specs.Read as Read
 use Rattle.readers.specs.declared.Reader.{Reader}

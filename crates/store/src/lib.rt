@@ -5,7 +5,7 @@ ghost use Rattle.model.specs.Words.{outcomeNo};
 ghost use Rattle.model.specs.Image.{createCheck, openCheck};
 ghost use Rattle.model.specs.Lent.{creation, opening};
 ghost use Rattle.model.specs.Record.{entries};
-ghost use Rattle.model.specs.Store.{recordCall, batchCall, outcomeReply};
+ghost use Rattle.model.specs.Store.{recordCall, batchCall, consolidateCall, outcomeReply, consolidatedReply};
 ghost use Rattle.lent.specs.Parts.{lentOf};
 ghost use Rattle.store.specs.Called.{Called};
 
@@ -58,4 +58,14 @@ pub fn record_batch(
     let done = batch::record_batch(image, old, batch, stamp);
     *flags = done.flags;
     done.outcome
+}
+
+// Consolidates every pair of adjacent tiers. Answers how many values were written; a refusal ends the run, and what was done before it stays.
+pub fn consolidate(image: &mut [u8], flags: &mut model::Flags) -> model::Consolidated
+    ensures { λ r. ⌜ Called (lentOf (now (image .entry)) (now (flags .entry))) consolidateCall (consolidatedReply r) (lentOf (now (image .exit)) (now (flags .exit))) ⌝ }
+{
+    let old = *flags;
+    let done = consolidate::consolidate(image, old);
+    *flags = done.flags;
+    done.answer
 }

@@ -50,7 +50,6 @@ use Rattle.model.proofs.Queried as P
 use Rattle.model.specs.Store.{queryCall}
 use Rattle.lent.specs.Parts.{lentOf}
 use Rattle.readers.specs.Answers.{startOf, Answers, query-answers}
-use Rattle.readers.specs.Reads.{readerOf}
 use Rattle.readers.specs.declared.Start.{Start}
 use Rattle.readers.proofs.QueryResult as R
 use Rattle.readers.proofs.QueryResult.Laws as R′

@@ -1,5 +1,4 @@
 -- `readers::start_of` meets its contract, one case a return. Assumes nothing.
-use mathlib.Core.Path.{sym, ap, _∙_}
 use Rattle.readers.specs.Answers.{startOf}
 use borrow.Author.Needs.{needs}
 use Rattle.readers.proofs.start_of.Statement.{statement}

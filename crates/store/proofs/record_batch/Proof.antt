@@ -21,7 +21,7 @@ use types.Part.{agg, whole, sub, look-in}
 use types.Run.{look, init, store, forget, stop, hop, fld, from, load, addr, of-opd, and-then, no-more, assigns, land, returns, enter, alloc1, alloc0, params1, pass1, pass0, free1, free0}
 use types.SemTy.{Body}
 use sound.WpLaws.{FmC, fmOf, WpFn-mono}
-use denote.RattleType.{RattleType, owns}
+use denote.RattleType.{owns}
 use denote.Laws.{Is, shows}
 use denote.Memory.{mem, cellAt}
 use denote.Plain.{uint-makes, uint-vals, uint-tells}
@@ -60,7 +60,7 @@ use Rattle.batch.proofs.record_batch.Symbol.{name as #batch·record-batch}
 use Rattle.batch.proofs.record_batch.Met as core-thm
 use Rattle.store.proofs.Values.{fv, ov}
 use Rattle.store.proofs.record_batch.Key.{name as #store·record-batch}
-use Rattle.store.proofs.record_batch as rec
+use Rattle.store.proofs.record_batch as fun
 use Rattle.store.proofs.record_batch.Statement as stated
 use Rattle.store.proofs.record_batch.Code as code
 
@@ -68,7 +68,7 @@ use Rattle.store.proofs.record_batch.Code as code
 abbrev behind : Slot 3
 behind = plain (λ _. F.the-row)
 
-abbrev stayed : Stays (rec.ended .signature .params) (rec.ended .kept)
+abbrev stayed : Stays (fun.ended .signature .params) (fun.ended .kept)
 stayed = (gave-slice (0 ∷ []) tt (plain (λ _. u8)), (stay-ref (1 ∷ []) tt behind, (stay-none-slice (2 ∷ []) tt (plain (λ _. u8)) yes, (stay-none (λ _. u64) yes, tt))))
 
 -- the contract that the proof cites
@@ -85,11 +85,11 @@ module _ {M : Type 1} (𝓤 : URA M) (H : Heap 𝓤) (A : Atoms 𝓤) (W : Given
   abbrev s : Val
   s = sliceVal (bi, oi) (length ys)
 
-  abbrev at : Vals rec.signature (κ, (κ′, (κ₂, tt)))
+  abbrev at : Vals fun.signature (κ, (κ′, (κ₂, tt)))
   at = (s ∷ [], (vptr b o ∷ [], (slice-vals bs, (vint w64 n ∷ [], tt))))
 
   abbrev Post : Val → SProp 𝓤
-  Post = walkOf 𝓤 H A rec.ended stayed (rec.clauses 𝓤 H A at-mem run) .post (((κ, (κ′, (κ₂, tt))), (q, (q′, (q₂, tt))), tt, x, at), tt)
+  Post = walkOf 𝓤 H A fun.ended stayed (fun.clauses 𝓤 H A at-mem run) .post (((κ, (κ′, (κ₂, tt))), (q, (q′, (q₂, tt))), tt, x, at), tt)
 
   abbrev Image : Fml
   Image = MutSlice (named 0) κ u8 .own img (s ∷ [])
@@ -133,7 +133,7 @@ module _ {M : Type 1} (𝓤 : URA M) (H : Heap 𝓤) (A : Atoms 𝓤) (W : Given
       → ent 𝓤 (⋆ 𝓤 H A (‵ (fobs γ (F.the-row .coded .code (t .flags))) ∷ ‵ (fbor κ′ (Body (mem F.the-row) b o γ)) ∷ ‵ (flft κ′ q′) ∷ (‵ (flft κ q) ⊛ ‵ (flft κ₂ q₂) ⊛ ‵ ftrue) ∷ ‵ (finally u8 γi zs) ∷ ‵ Rest ∷ [])) (Post (ov (t .outcome)))
   exits t zs e l is =
       qed W (‵ (fobs γ (F.the-row .coded .code (t .flags))) ∷ ‵ (fbor κ′ (Body (mem F.the-row) b o γ)) ∷ ‵ (flft κ′ q′) ∷ (‵ (flft κ q) ⊛ ‵ (flft κ₂ q₂) ⊛ ‵ ftrue) ∷ ‵ (finally u8 γi zs) ∷ ‵ Rest ∷ []) ∵
-      suffices ! _ (ends-at 𝓤 H A rec.ended stayed (rec.clauses 𝓤 H A at-mem run) W (((κ, (κ′, (κ₂, tt))), (q, (q′, (q₂, tt))), tt, x, at), tt) (ov (t .outcome)) (t .outcome) (zs, (t .flags, (tt, (tt, tt)))) (l, (tt, (tt, (tt, tt))))) $
+      suffices ! _ (ends-at 𝓤 H A fun.ended stayed (fun.clauses 𝓤 H A at-mem run) W (((κ, (κ′, (κ₂, tt))), (q, (q′, (q₂, tt))), tt, x, at), tt) (ov (t .outcome)) (t .outcome) (zs, (t .flags, (tt, (tt, tt)))) (l, (tt, (tt, (tt, tt))))) $
       says ! (batch-called (t .outcome) e) $
       -- the tokens
       move ! (3 ∷ []) $ split ! $ move ! (4 ∷ 1 ∷ []) $ join ! $ move ! (1 ∷ 0 ∷ []) $ join ! $ frame ! $
@@ -143,7 +143,7 @@ module _ {M : Type 1} (𝓤 : URA M) (H : Heap 𝓤) (A : Atoms 𝓤) (W : Given
       owned ! P.the-row (Is P.the-row) (EL.makes P.the-type P′.the-plain 𝓤 H A) (t .outcome) _ is $ move ! (1 ∷ 0 ∷ []) $ frame ! $ done !
 
   module _ (C : Calls 𝓤 H) (Λ : Loops 𝓤 H) (fm : FmC 𝓤 H (W .laws) C) (known : Triple 𝓤 (C #batch·record-batch) (Core 𝓤 H A at-mem run)) where
-    walk : Room u8 (length ys) → Is (ShrSlice (named 2) κ₂ u8) bs (slice-vals bs) → n < 2 ^ 64 → ent 𝓤 (onEntry 𝓤 H A rec.signature (κ, (κ′, (κ₂, tt))) (q, (q′, (q₂, tt))) x at) (WpFn 𝓤 H C Λ code.function (s ∷ vptr b o ∷ sliceVal (bs .ptr) (length (bs .now)) ∷ vint w64 n ∷ []) Post)
+    walk : Room u8 (length ys) → Is (ShrSlice (named 2) κ₂ u8) bs (slice-vals bs) → n < 2 ^ 64 → ent 𝓤 (onEntry 𝓤 H A fun.signature (κ, (κ′, (κ₂, tt))) (q, (q′, (q₂, tt))) x at) (WpFn 𝓤 H C Λ code.function (s ∷ vptr b o ∷ sliceVal (bs .ptr) (length (bs .now)) ∷ vint w64 n ∷ []) Post)
     walk room pb fn =
         qed W ((‵ (flft κ q) ⊛ ‵ (flft κ′ q′) ⊛ ‵ (flft κ₂ q₂) ⊛ ‵ ftrue) ∷ ‵ (owns (MutSlice (named 0) κ u8 ∷ MutRef (named 1) κ′ F.the-row ∷ ShrSlice (named 2) κ₂ u8 ∷ u64 ∷ []) x at) ∷ []) ∵ enter ! C Λ code.function (s ∷ vptr b o ∷ sliceVal (bs .ptr) (length (bs .now)) ∷ vint w64 n ∷ []) _ $
         alloc1 ! (λ l0. alloc1 ! (λ l1. alloc1 ! (λ l2. alloc1 ! (λ l3. alloc1 ! (λ l4. alloc1 ! (λ l5. alloc1 ! (λ l6. alloc1 ! (λ l7. alloc1 ! (λ l8. alloc0 ! $ params1 ! $
@@ -184,21 +184,21 @@ module _ {M : Type 1} (𝓤 : URA M) (H : Heap 𝓤) (A : Atoms 𝓤) (W : Given
         keep ! (0 ∷ 1 ∷ 2 ∷ 3 ∷ 4 ∷ 6 ∷ []) $ by ! (exits t (zs .0) e l ia))))))))))))))))))
 
 module _ {M : Type 1} (𝓤 : URA M) (H : Heap 𝓤) (A : Atoms 𝓤) (W : Given 𝓤 H A) (mem : Memory → SProp 𝓤) (run : Routine → Fun 𝓤) where
-  batch-walks : (C : Calls 𝓤 H) (Λ : Loops 𝓤 H) → FmC 𝓤 H (W .laws) C → Triple 𝓤 (C #batch·record-batch) (Core 𝓤 H A mem run) → Walks 𝓤 H A rec.ended stayed (WpFn 𝓤 H C Λ code.function) (rec.clauses 𝓤 H A mem run)
-  batch-walks C Λ fm known = walked 𝓤 H A rec.ended stayed (rec.clauses 𝓤 H A mem run) (WpFn 𝓤 H C Λ code.function)
+  walks : (C : Calls 𝓤 H) (Λ : Loops 𝓤 H) → FmC 𝓤 H (W .laws) C → Triple 𝓤 (C #batch·record-batch) (Core 𝓤 H A mem run) → Walks 𝓤 H A fun.ended stayed (WpFn 𝓤 H C Λ code.function) (fun.clauses 𝓤 H A mem run)
+  walks C Λ fm known = walked 𝓤 H A fun.ended stayed (fun.clauses 𝓤 H A mem run) (WpFn 𝓤 H C Λ code.function)
       (λ κs. (slice-vals, (ptr-vals, (slice-vals, (uint-vals w64, tt))))) (λ κs. (mut-slice-tells (named 0) (κs .0) u8, (mut-tells (named 1) (κs .1 .0) F.the-row, (shr-slice-tells (named 2) (κs .1 .1 .0) u8, (uint-tells w64, tt)))))
       (λ κs qs bounds a _ are. via 𝓤 _ (fst∗ 𝓤 _ (emp 𝓤)) (walk 𝓤 H A W mem run (κs .0) (κs .1 .0) (κs .1 .1 .0) (qs .0) (qs .1 .0) (qs .1 .1 .0) (a .0 .ptr .0) (a .0 .ptr .1) (a .0 .name) (a .0 .now) (a .1 .0 .ptr .0) (a .1 .0 .ptr .1) (a .1 .0 .name) (a .1 .0 .now) (a .1 .1 .0) (a .1 .1 .1 .0) C Λ fm known (are .0 .0 .1) (are .1 .1 .0) (are .1 .1 .1 .0 .1)))
 
-batch-meets : {M : Type 1} (𝓤 : URA M) (H : Heap 𝓤) (A : Atoms 𝓤) → Given 𝓤 H A → (mem : Memory → SProp 𝓤) (run : Routine → Fun 𝓤) (𝓣 : Tables 𝓤 H) → Triple 𝓤 (𝓣 .C #batch·record-batch) (Core 𝓤 H A mem run)
-    → Meets 𝓤 H A rec.signature (WpFn 𝓤 H (𝓣 .C) (𝓣 .Λ) code.function) (rec.spec 𝓤 H A mem run)
-batch-meets 𝓤 H A W mem run 𝓣 known =
-    walk-meets 𝓤 H A rec.ended stayed W (goes-gave-slice 𝓤 H A W 3 0 tt (plain (λ _. u8)), (goes-ref 𝓤 H A W 3 1 tt behind, (goes-none-slice 𝓤 H A W 3 (2 ∷ []) tt (plain (λ _. u8)) yes, (goes-none 𝓤 H A W 3 (λ _. u64) yes (λ κs x f. refl), tt)))) (rec.clauses 𝓤 H A mem run)
-    (WpFn 𝓤 H (𝓣 .C) (𝓣 .Λ) code.function) (WpFn-mono 𝓤 H (W .laws) 𝓣 code.function) (batch-walks 𝓤 H A W mem run (𝓣 .C) (𝓣 .Λ) (fmOf 𝓤 H (W .laws) 𝓣) known)
+meets : {M : Type 1} (𝓤 : URA M) (H : Heap 𝓤) (A : Atoms 𝓤) → Given 𝓤 H A → (mem : Memory → SProp 𝓤) (run : Routine → Fun 𝓤) (𝓣 : Tables 𝓤 H) → Triple 𝓤 (𝓣 .C #batch·record-batch) (Core 𝓤 H A mem run)
+    → Meets 𝓤 H A fun.signature (WpFn 𝓤 H (𝓣 .C) (𝓣 .Λ) code.function) (fun.spec 𝓤 H A mem run)
+meets 𝓤 H A W mem run 𝓣 known =
+    walk-meets 𝓤 H A fun.ended stayed W (goes-gave-slice 𝓤 H A W 3 0 tt (plain (λ _. u8)), (goes-ref 𝓤 H A W 3 1 tt behind, (goes-none-slice 𝓤 H A W 3 (2 ∷ []) tt (plain (λ _. u8)) yes, (goes-none 𝓤 H A W 3 (λ _. u64) yes (λ κs x f. refl), tt)))) (fun.clauses 𝓤 H A mem run)
+    (WpFn 𝓤 H (𝓣 .C) (𝓣 .Λ) code.function) (WpFn-mono 𝓤 H (W .laws) 𝓣 code.function) (walks 𝓤 H A W mem run (𝓣 .C) (𝓣 .Λ) (fmOf 𝓤 H (W .laws) 𝓣) known)
 
 pub record-batch-spec : {M : Type 1} → stated.statement M
 unfolding code.routine tablesOf
 record-batch-spec 𝓤 H 𝓜 𝓖 𝓡 =
-    entered 𝓤 H (tripleOf 𝓤 H (𝓖 .A) rec.signature (rec.spec 𝓤 H (𝓖 .A) (𝓜 .mem) (𝓡 .run)))
+    entered 𝓤 H (tripleOf 𝓤 H (𝓖 .A) fun.signature (fun.spec 𝓤 H (𝓖 .A) (𝓜 .mem) (𝓡 .run)))
     (tables 𝓤 H 𝓜 𝓡 code.env .C) (tables 𝓤 H 𝓜 𝓡 code.env .Λ) #store·record-batch code.function (code.unfolded 𝓤 H 𝓜 𝓡)
-    (batch-meets 𝓤 H (𝓖 .A) (givenOf 𝓤 H 𝓜 𝓖) (𝓜 .mem) (𝓡 .run) (tablesOf 𝓤 H 𝓜 (tables 𝓤 H 𝓜 𝓡 code.env))
+    (meets 𝓤 H (𝓖 .A) (givenOf 𝓤 H 𝓜 𝓖) (𝓜 .mem) (𝓡 .run) (tablesOf 𝓤 H 𝓜 (tables 𝓤 H 𝓜 𝓡 code.env))
     (cited 𝓤 H (Core 𝓤 H (𝓖 .A) (𝓜 .mem) (𝓡 .run)) 𝓜 𝓡 code.env #batch·record-batch core-def.routine code.calls-batch·record-batch (core-thm.met 𝓤 H 𝓜 𝓖 𝓡)))
