@@ -1,0 +1,63 @@
+-- `calls::carry_record` meets its contract: the fields that are read are the call's, and `record::record` does the rest. Assumes nothing.
+use Rattle.lent.specs.Parts.{lentOf}
+use Rattle.calls.proofs.Laws.{recorded}
+use borrow.Author.Needs.{needs}
+use Rattle.calls.proofs.carry_record.Statement.{statement}
+use Rattle.calls.proofs.carry_record.Tie as tie
+
+add-get-u32 : tie.Need-add-get-u32
+add-get-u32 c = search needs
+
+get-u32-requires : tie.Need-get-u32-requires
+get-u32-requires c κs = search needs
+
+add-get-u32-2 : tie.Need-add-get-u32-2
+add-get-u32-2 c = search needs
+
+get-u32-requires-2 : tie.Need-get-u32-requires-2
+get-u32-requires-2 c κs = search needs
+
+add-get-u64 : tie.Need-add-get-u64
+add-get-u64 c = search needs
+
+get-u64-requires : tie.Need-get-u64-requires
+get-u64-requires c κs = search needs
+
+add-get-u64-2 : tie.Need-add-get-u64-2
+add-get-u64-2 c = search needs
+
+get-u64-requires-2 : tie.Need-get-u64-requires-2
+get-u64-requires-2 c κs = search needs
+
+cast-t12 : tie.Need-cast-t12
+cast-t12 c = search needs
+
+cast-t13 : tie.Need-cast-t13
+cast-t13 c = search needs
+
+record-requires : tie.Need-record-requires
+record-requires c κs = search needs
+
+same-length : tie.Need-same-length
+same-length c = search needs
+
+returns : tie.Need-returns
+returns c = recorded (lentOf (c .before .before .before .before .before .before .before .before .before .before .before .args .image .now) (c .before .before .before .before .before .before .before .before .before .before .before .args .flags)) (c .before .before .before .before .before .before .before .before .before .before .before .args .calls .now) (c .before .before .before .before .before .before .before .before .before .before .before .args .at) (c .before .before .before .before .before .before .before .before .get-u32 .ensures .0) (c .before .before .before .before .before .before .before .get-u322 .ensures .0) (c .before .before .before .before .before .before .get-u64 .ensures) (c .before .before .before .before .before .get-u642 .ensures) (c .before .before .before .«record» .ensures)
+
+pub carry-record-spec : {M : Type 1} → statement M
+carry-record-spec =
+    tie.close
+    (tie.spec
+    add-get-u32
+    get-u32-requires
+    add-get-u32-2
+    get-u32-requires-2
+    add-get-u64
+    get-u64-requires
+    add-get-u64-2
+    get-u64-requires-2
+    cast-t12
+    cast-t13
+    record-requires
+    same-length
+    returns)
