@@ -10,14 +10,13 @@ use Rattle.model.specs.declared.Outcome.the-variants as O
 use Rattle.model.specs.Words.{numberOf, outcomeNo}
 use Rattle.model.specs.Lent.{Lent}
 use Rattle.model.specs.Record.{Entry}
-use Rattle.model.specs.Store.{Call, recordCall, batchCall, Reply, refused, doneOr, call, outcomeReply}
+use Rattle.model.specs.Store.{Call, Done, recordCall, batchCall, Reply, refused, doneOr, call, outcomeReply}
 use Rattle.record.specs.Done.{RecordDone}
 use Rattle.batch.specs.Done.{BatchDone}
 
--- call c on l answers `reply` and leaves `after`
-pub record Called (l : Lent) (c : Call) (reply : Reply) (after : Lent) : Type 0 where
-  pub reply-is : reply ≡ call l c .reply
-  pub lent-is : after ≡ call l c .lent
+-- what a call answered and left
+abbrev pub doneOf : Reply → Lent → Done
+doneOf reply after = record { reply = reply; lent = after }
 
 -- ---- from a check's number to the reply
 
@@ -47,10 +46,10 @@ outcome-reply (O.Refused r) = refused-reply r
 
 -- ---- the cores' promises
 
-pub record-called : {l : Lent} {k c v t : ℕ} (o : Outcome) {after : Lent} → RecordDone l k c v t (outcomeNo o) after → Called l (recordCall k c v t) (outcomeReply o) after
+pub record-called : {l : Lent} {k c v t : ℕ} (o : Outcome) {after : Lent} → RecordDone l k c v t (outcomeNo o) after → doneOf (outcomeReply o) after ≡ call l (recordCall k c v t)
 unfolding call
-record-called o d = record { reply-is = outcome-reply o ∙ ap doneOr (d .answer-is); lent-is = d .lent-is }
+record-called o d = λ i. record { reply = (outcome-reply o ∙ ap doneOr (d .answer-is)) i; lent = d .lent-is i }
 
-pub batch-called : {l : Lent} {es : List Entry} {t : ℕ} (o : Outcome) {after : Lent} → BatchDone l es t (outcomeNo o) after → Called l (batchCall es t) (outcomeReply o) after
+pub batch-called : {l : Lent} {es : List Entry} {t : ℕ} (o : Outcome) {after : Lent} → BatchDone l es t (outcomeNo o) after → doneOf (outcomeReply o) after ≡ call l (batchCall es t)
 unfolding call
-batch-called o d = record { reply-is = outcome-reply o ∙ ap doneOr (d .answer-is); lent-is = d .lent-is }
+batch-called o d = λ i. record { reply = (outcome-reply o ∙ ap doneOr (d .answer-is)) i; lent = d .lent-is i }

@@ -5,9 +5,9 @@ ghost use Rattle.model.specs.Words.{outcomeNo};
 ghost use Rattle.model.specs.Image.{createCheck, openCheck};
 ghost use Rattle.model.specs.Lent.{creation, opening};
 ghost use Rattle.model.specs.Record.{entries};
-ghost use Rattle.model.specs.Store.{recordCall, batchCall, consolidateCall, outcomeReply, consolidatedReply};
+ghost use Rattle.model.specs.Store.{recordCall, batchCall, consolidateCall, outcomeReply, consolidatedReply, call};
 ghost use Rattle.lent.specs.Parts.{lentOf};
-ghost use Rattle.store.specs.Called.{Called};
+ghost use Rattle.store.specs.Called.{doneOf};
 
 // Creates a plan's image at the start of a lent slice. Later bytes and the flags past the plan's rows stay.
 pub fn create(plan: &[u8], image: &mut [u8], flags: &mut model::Flags) -> model::Outcome
@@ -37,7 +37,7 @@ pub fn record(
     value: u64,
     stamp: u64,
 ) -> model::Outcome
-    ensures { λ r. ⌜ Called (lentOf (now (image .entry)) (now (flags .entry))) (recordCall (handle .schema) (handle .column) value stamp) (outcomeReply r) (lentOf (now (image .exit)) (now (flags .exit))) ⌝ }
+    ensures { λ r. ⌜ doneOf (outcomeReply r) (lentOf (now (image .exit)) (now (flags .exit))) ≡ call (lentOf (now (image .entry)) (now (flags .entry))) (recordCall (handle .schema) (handle .column) value stamp) ⌝ }
 {
     let old = *flags;
     let done = record::record(image, old, handle, value, stamp);
@@ -52,7 +52,7 @@ pub fn record_batch(
     batch: &[u8],
     stamp: u64,
 ) -> model::Outcome
-    ensures { λ r. ⌜ Called (lentOf (now (image .entry)) (now (flags .entry))) (batchCall (entries (now (batch .entry))) stamp) (outcomeReply r) (lentOf (now (image .exit)) (now (flags .exit))) ⌝ }
+    ensures { λ r. ⌜ doneOf (outcomeReply r) (lentOf (now (image .exit)) (now (flags .exit))) ≡ call (lentOf (now (image .entry)) (now (flags .entry))) (batchCall (entries (now (batch .entry))) stamp) ⌝ }
 {
     let old = *flags;
     let done = batch::record_batch(image, old, batch, stamp);
@@ -62,7 +62,7 @@ pub fn record_batch(
 
 // Consolidates every pair of adjacent tiers. Answers how many values were written; a refusal ends the run, and what was done before it stays.
 pub fn consolidate(image: &mut [u8], flags: &mut model::Flags) -> model::Consolidated
-    ensures { λ r. ⌜ Called (lentOf (now (image .entry)) (now (flags .entry))) consolidateCall (consolidatedReply r) (lentOf (now (image .exit)) (now (flags .exit))) ⌝ }
+    ensures { λ r. ⌜ doneOf (consolidatedReply r) (lentOf (now (image .exit)) (now (flags .exit))) ≡ call (lentOf (now (image .entry)) (now (flags .entry))) consolidateCall ⌝ }
 {
     let old = *flags;
     let done = consolidate::consolidate(image, old);

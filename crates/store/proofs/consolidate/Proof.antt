@@ -120,7 +120,7 @@ module _ {M : Type 1} (𝓤 : URA M) (H : Heap 𝓤) (A : Atoms 𝓤) (W : Given
   exits t zs e l is =
       qed W (‵ (fobs γ (F.the-row .coded .code (t .flags))) ∷ ‵ (fbor κ′ (Body (mem F.the-row) b o γ)) ∷ ‵ (flft κ′ q′) ∷ (‵ (flft κ q) ⊛ ‵ ftrue) ∷ ‵ (finally u8 γi zs) ∷ []) ∵
       suffices ! _ (ends-at 𝓤 H A fun.ended stayed (fun.clauses 𝓤 H A at-mem run) W (((κ, (κ′, tt)), (q, (q′, tt)), tt, x, at), tt) (cv (t .answer)) (t .answer) (zs, (t .flags, tt)) (l, (tt, tt))) $
-      says ! (record { reply-is = λ i. e i .reply; lent-is = λ i. e i .lent }) $
+      says ! e $
       -- the tokens
       move ! (3 ∷ []) $ split ! $ move ! (4 ∷ 1 ∷ []) $ join ! $ move ! (1 ∷ 0 ∷ []) $ join ! $ frame ! $
       -- [obs; the borrow; the last list]
