@@ -1,12 +1,14 @@
--- A check's answer as a list of tests: where it stops, and where it goes on. Assumes nothing.
+-- A check's answer: as a list of tests, where it stops and where it goes on; as an enum, by its number. Assumes nothing.
 use Prim.Native.Nat.{ℕ, zero, suc}
 use native.Mathlib.Omega.{arith}
-use mathlib.Core.Path.{_≡_, refl}
+use mathlib.Core.Path.{_≡_, refl, sym, ap, _∙_}
 use mathlib.Core.Bool.{Bool, true, false}
 use mathlib.Core.List.{List, [], _∷_}
 use Rattle.model.specs.declared.Refusal.{Refusal}
 use Rattle.model.specs.declared.Refusal.the-variants.{BadImage, NoTiers, InvalidMaxSeries, InvalidTierConfig, TooManySlots, TiersNotOrdered, ConsolidationOnHighestTier, LayoutTooLarge, ShortBuffer, CorruptedSlab, InvalidHandle, InvalidValue, InvalidTimestamp, InvalidTier, InvalidTimeRange, NoConsolidationFunction}
-use Rattle.model.specs.Words.{numberOf}
+use Rattle.model.specs.declared.Outcome.{Outcome}
+use Rattle.model.specs.declared.Outcome.the-variants as O
+use Rattle.model.specs.Words.{numberOf, outcomeNo}
 use Rattle.model.specs.Image.{unless, first}
 
 pub unless-on : {b : Bool} (n : ℕ) → b ≡ true → unless b n ≡ 0
@@ -49,3 +51,10 @@ refusal-no InvalidTimestamp e = omega arith
 refusal-no InvalidTier e = omega arith
 refusal-no InvalidTimeRange e = omega arith
 refusal-no NoConsolidationFunction e = omega arith
+
+-- an answer that is a refusal has not the number 0
+pub not-accepted : {o : Outcome} {w : Refusal} → o ≡ O.Refused w → outcomeNo o ≡ 0 → ⊥
+not-accepted {w = w} e z = refusal-no w (ap outcomeNo (sym e) ∙ z)
+
+pub accepted : {o : Outcome} → o ≡ O.Accepted → outcomeNo o ≡ 0
+accepted e = ap outcomeNo e

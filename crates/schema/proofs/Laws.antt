@@ -9,24 +9,13 @@ use mathlib.Core.List.{List, [], _∷_}
 use lib.Dec.{eqb, leb, ltb}
 use borrow.Author.Tests.{eq-eqb, ne-eqb, lt-ltb, le-ltb, le-leb, lt-leb}
 use Rattle.model.specs.declared.Row.{Row}
-use Rattle.model.specs.declared.Refusal.{Refusal}
-use Rattle.model.specs.declared.Outcome.{Outcome}
-use Rattle.model.specs.declared.Outcome.the-variants as O
-use Rattle.model.specs.Words.{numberOf, outcomeNo}
 use Rattle.model.specs.Image.{first, unless, rowAt, rowSlots, tiersOf, keepRow, tierCheck, tierChecks, rising, schemaCheck, schemaChecks}
 use Rattle.rows.specs.Tests.{and-assoc, and-true}
-use Rattle.rows.specs.First.{first-stop, first-on, first-one, refusal-no}
+use Rattle.rows.specs.First.{first-stop, first-on, first-one}
 use Rattle.rows.specs.Rows.{rowsTo, rows-step, rows-end}
 use Rattle.schema.specs.declared.First.{First}
 use Rattle.schema.specs.declared.First.the-variants.{At, Missing}
 use Rattle.schema.specs.Tiers.{tiersAt, reach}
-
--- an answer that is a refusal has not the number 0
-pub not-accepted : {o : Outcome} {w : Refusal} → o ≡ O.Refused w → outcomeNo o ≡ 0 → ⊥
-not-accepted {w = w} e z = refusal-no w (ap outcomeNo (sym e) ∙ z)
-
-pub accepted : {o : Outcome} → o ≡ O.Accepted → outcomeNo o ≡ 0
-accepted e = ap outcomeNo e
 
 -- ---- the rows of schema j
 

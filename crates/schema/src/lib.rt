@@ -18,6 +18,7 @@ pub enum First {
 pub fn checked_tier(r: model::Row) -> rows::Checked
     ensures { λ c. ⌜ Checks c r (tierCheck r) ⌝ }
 {
+    let n = layout::row_slots(r);
     let spans = (0 < r.interval)
         & (r.interval < 0x8000_0000_0000_0000)
         & (0 < r.retention)
@@ -26,7 +27,6 @@ pub fn checked_tier(r: model::Row) -> rows::Checked
     if !spans {
         return rows::Checked::Refused(model::Refusal::InvalidTierConfig);
     }
-    let n = layout::row_slots(r);
     if n > 1_000_000_000 {
         return rows::Checked::Refused(model::Refusal::TooManySlots);
     }
@@ -107,11 +107,12 @@ pub fn check_schema(s: &[u8], n: usize, j: u64) -> model::Outcome
     let model::Outcome::Accepted = tiers else {
         return tiers;
     };
+    let function = r.function;
     let rises = is_rising(s, n, j, i + 1, r);
     if !rises {
         return model::Outcome::Refused(model::Refusal::TiersNotOrdered);
     }
-    if r.function != 0 {
+    if function != 0 {
         return model::Outcome::Refused(model::Refusal::ConsolidationOnHighestTier);
     }
     model::Outcome::Accepted

@@ -3,7 +3,7 @@ use mathlib.Core.Path.{sym, _∙_}
 use native.Mathlib.Omega.{arith}
 use lib.ListN.{length}
 use Rattle.rows.specs.Rows.{sizes}
-use Rattle.schema.proofs.Laws.{accepted, not-accepted}
+use Rattle.rows.specs.First.{accepted, not-accepted}
 use Rattle.image.specs.Ways.{plan-parts}
 use Rattle.image.specs.Lent.{lent}
 use Rattle.create.specs.Left as left

@@ -3,7 +3,7 @@ use mathlib.Core.Path.{_≡_}
 use native.Mathlib.Omega.{arith}
 use Rattle.model.specs.Image.{rowCount, schemas, schemaChecks}
 use Rattle.rows.specs.Rows.{sizes, rowsTo}
-use Rattle.schema.proofs.Laws.{accepted, not-accepted}
+use Rattle.rows.specs.First.{accepted, not-accepted}
 use Rattle.image.specs.Ways as ways
 use borrow.Author.Needs.{needs}
 use Rattle.image.proofs.check_layout.Statement.{statement}

@@ -1,7 +1,7 @@
 -- `open::open` meets its contract: a refusal changes nothing; else the flags are those of the slabs. Assumes nothing.
 use mathlib.Core.Path.{sym, _∙_}
 use native.Mathlib.Omega.{arith}
-use Rattle.schema.proofs.Laws.{accepted, not-accepted}
+use Rattle.rows.specs.First.{accepted, not-accepted}
 use Rattle.image.specs.Lent.{lent}
 use Rattle.open.specs.Left as left
 use borrow.Author.Needs.{needs}

@@ -1,12 +1,12 @@
 -- `schema::check_schema` meets its contract: each way out is one test of the definition's list. Assumes nothing.
 use Prim.Native.Nat.{_+_}
-use Rattle.rows.specs.Rows.{rowsTo}
 use mathlib.Core.Path.{sym, ap, _∙_}
-use mathlib.Core.Bool.{true, false}
 use native.Mathlib.Omega.{arith}
 use borrow.Author.Tests.{not-true, not-false}
 use Rattle.model.specs.Image.{rising, tiersOf}
+use Rattle.rows.specs.Rows.{rowsTo}
 use Rattle.schema.specs.Tiers.{reach}
+use Rattle.rows.specs.First.{accepted, not-accepted}
 use Rattle.schema.proofs.Laws as laws
 use borrow.Author.Needs.{needs}
 use Rattle.schema.proofs.check_schema.Statement.{statement}
@@ -40,7 +40,7 @@ enum-told-3 : tie.Need-enum-told-3
 enum-told-3 c = search needs
 
 returns-3 : tie.Need-returns-3
-returns-3 c = let a = c .before .before .before .before .before .before .before .before .before .before .before .args in laws.schema-tiers (a .s .now) (a .n) (a .j) (c .before .before .before .before .before .before .before .before .before .first-tier .ensures .0) (c .before .before .before .before .before .before .before .i .given .1) (λ z. c .before .before .before .if1 .left (ap (λ r. r .series) (c .before .before .before .before .before .row-at .ensures) ∙ z)) (c .before .before .check-tiers .ensures) (laws.not-accepted (c .enum-told3 .given .1))
+returns-3 c = let a = c .before .before .before .before .before .before .before .before .before .before .before .args in laws.schema-tiers (a .s .now) (a .n) (a .j) (c .before .before .before .before .before .before .before .before .before .first-tier .ensures .0) (c .before .before .before .before .before .before .before .i .given .1) (λ z. c .before .before .before .if1 .left (ap (λ r. r .series) (c .before .before .before .before .before .row-at .ensures) ∙ z)) (c .before .before .check-tiers .ensures) (not-accepted (c .enum-told3 .given .1))
 
 add-is-rising : tie.Need-add-is-rising
 add-is-rising c = omega (arith, ap reach (c .before .before .before .before .before .before .before .i .given .1))
@@ -49,13 +49,13 @@ is-rising-requires : tie.Need-is-rising-requires
 is-rising-requires c κs = (c .before .before .before .before .before .before .before .before .before .before .before .pre, omega (arith, ap reach (c .before .before .before .before .before .before .before .i .given .1)))
 
 returns-4 : tie.Need-returns-4
-returns-4 c = let a = c .before .before .before .before .before .before .before .before .before .before .before .before .before .args in let e = c .before .before .before .before .before .before .before .row-at .ensures in laws.schema-6 (a .s .now) (a .n) (a .j) (c .before .before .before .before .before .before .before .before .before .before .before .first-tier .ensures .0) (c .before .before .before .before .before .before .before .before .before .i .given .1) (λ z. c .before .before .before .before .before .if1 .left (ap (λ r. r .series) e ∙ z)) (sym (c .before .before .before .before .check-tiers .ensures) ∙ laws.accepted (c .before .before .enum-told2 .given .1)) (ap (λ r. rising r (tiersOf (a .j) (rowsTo (a .s .now) (a .n) (c .before .before .before .before .before .before .before .before .before .i .given .0 .0 + 1)))) (sym e) ∙ sym (c .before .is-rising .ensures) ∙ not-true _ (c .if2 .taken))
+returns-4 c = let a = c .before .before .before .before .before .before .before .before .before .before .before .before .before .args in let e = c .before .before .before .before .before .before .before .row-at .ensures in laws.schema-6 (a .s .now) (a .n) (a .j) (c .before .before .before .before .before .before .before .before .before .before .before .first-tier .ensures .0) (c .before .before .before .before .before .before .before .before .before .i .given .1) (λ z. c .before .before .before .before .before .if1 .left (ap (λ r. r .series) e ∙ z)) (sym (c .before .before .before .before .check-tiers .ensures) ∙ accepted (c .before .before .enum-told2 .given .1)) (ap (λ r. rising r (tiersOf (a .j) (rowsTo (a .s .now) (a .n) (c .before .before .before .before .before .before .before .before .before .i .given .0 .0 + 1)))) (sym e) ∙ sym (c .before .is-rising .ensures) ∙ not-true _ (c .if2 .taken))
 
 returns-5 : tie.Need-returns-5
-returns-5 c = let a = c .before .before .before .before .before .before .before .before .before .before .before .before .before .before .before .args in let e = c .before .before .before .before .before .before .before .before .before .row-at .ensures in laws.schema-7 (a .s .now) (a .n) (a .j) (c .before .before .before .before .before .before .before .before .before .before .before .before .before .first-tier .ensures .0) (c .before .before .before .before .before .before .before .before .before .before .before .i .given .1) (λ z. c .before .before .before .before .before .before .before .if1 .left (ap (λ r. r .series) e ∙ z)) (sym (c .before .before .before .before .before .before .check-tiers .ensures) ∙ laws.accepted (c .before .before .before .before .enum-told2 .given .1)) (ap (λ r. rising r (tiersOf (a .j) (rowsTo (a .s .now) (a .n) (c .before .before .before .before .before .before .before .before .before .before .before .i .given .0 .0 + 1)))) (sym e) ∙ sym (c .before .before .before .is-rising .ensures) ∙ not-false _ (c .before .before .if2 .left)) (λ z. c .if3 .taken (ap (λ r. r .function) e ∙ z))
+returns-5 c = let a = c .before .before .before .before .before .before .before .before .before .before .before .before .before .before .args in let e = c .before .before .before .before .before .before .before .before .row-at .ensures in laws.schema-7 (a .s .now) (a .n) (a .j) (c .before .before .before .before .before .before .before .before .before .before .before .before .first-tier .ensures .0) (c .before .before .before .before .before .before .before .before .before .before .i .given .1) (λ z. c .before .before .before .before .before .before .if1 .left (ap (λ r. r .series) e ∙ z)) (sym (c .before .before .before .before .before .check-tiers .ensures) ∙ accepted (c .before .before .before .enum-told2 .given .1)) (ap (λ r. rising r (tiersOf (a .j) (rowsTo (a .s .now) (a .n) (c .before .before .before .before .before .before .before .before .before .before .i .given .0 .0 + 1)))) (sym e) ∙ sym (c .before .before .is-rising .ensures) ∙ not-false _ (c .before .if2 .left)) (λ z. c .if3 .taken (ap (λ r. r .function) e ∙ z))
 
 returns-6 : tie.Need-returns-6
-returns-6 c = let a = c .before .before .before .before .before .before .before .before .before .before .before .before .before .before .before .args in let e = c .before .before .before .before .before .before .before .before .before .row-at .ensures in laws.schema-0 (a .s .now) (a .n) (a .j) (c .before .before .before .before .before .before .before .before .before .before .before .before .before .first-tier .ensures .0) (c .before .before .before .before .before .before .before .before .before .before .before .i .given .1) (λ z. c .before .before .before .before .before .before .before .if1 .left (ap (λ r. r .series) e ∙ z)) (sym (c .before .before .before .before .before .before .check-tiers .ensures) ∙ laws.accepted (c .before .before .before .before .enum-told2 .given .1)) (ap (λ r. rising r (tiersOf (a .j) (rowsTo (a .s .now) (a .n) (c .before .before .before .before .before .before .before .before .before .before .before .i .given .0 .0 + 1)))) (sym e) ∙ sym (c .before .before .before .is-rising .ensures) ∙ not-false _ (c .before .before .if2 .left)) (ap (λ r. r .function) (sym e) ∙ c .if3 .left)
+returns-6 c = let a = c .before .before .before .before .before .before .before .before .before .before .before .before .before .before .args in let e = c .before .before .before .before .before .before .before .before .row-at .ensures in laws.schema-0 (a .s .now) (a .n) (a .j) (c .before .before .before .before .before .before .before .before .before .before .before .before .first-tier .ensures .0) (c .before .before .before .before .before .before .before .before .before .before .i .given .1) (λ z. c .before .before .before .before .before .before .if1 .left (ap (λ r. r .series) e ∙ z)) (sym (c .before .before .before .before .before .check-tiers .ensures) ∙ accepted (c .before .before .before .enum-told2 .given .1)) (ap (λ r. rising r (tiersOf (a .j) (rowsTo (a .s .now) (a .n) (c .before .before .before .before .before .before .before .before .before .before .i .given .0 .0 + 1)))) (sym e) ∙ sym (c .before .before .is-rising .ensures) ∙ not-false _ (c .before .if2 .left)) (ap (λ r. r .function) (sym e) ∙ c .if3 .left)
 
 pub check-schema-spec : {M : Type 1} → statement M
 check-schema-spec =
