@@ -113,7 +113,7 @@ pub fn record_batch(
 ) -> record::Recorded
     ensures { λ r. ⌜ BatchDone (lentOf (now (image .entry)) flags) (entries (now (batch .entry))) stamp (outcomeNo (r .outcome)) (lentOf (now (image .exit)) (r .flags)) ⌝ }
 {
-    let opened = image::check_image(image);
+    let opened = quick::check(image);
     let model::Outcome::Accepted = opened else {
         return record::Recorded {
             outcome: opened,

@@ -8,6 +8,8 @@ use Rattle.model.specs.declared.Flags.{Flags}
 use Rattle.model.specs.declared.Next.the-variants.{Handed, Finished}
 use Rattle.model.specs.declared.Point.{Point}
 use Rattle.model.specs.declared.Stepped.{Stepped}
+use Rattle.model.specs.declared.Consolidated.{Consolidated}
+use Rattle.model.specs.declared.Consolidated.the-variants as C
 use Rattle.model.specs.declared.Queried.{Queried}
 use Rattle.model.specs.declared.Queried.the-variants as Q
 use Rattle.model.specs.declared.Found.{Found}
@@ -16,12 +18,12 @@ use Rattle.model.specs.Words.{numberOf}
 use Rattle.model.specs.Query.{QueryReply, repliedBy}
 use Rattle.model.specs.Lent.{Lent}
 use Rattle.model.specs.Record.{Entry}
-use Rattle.model.specs.Store.{Call, Done, call, recordCall, batchCall}
+use Rattle.model.specs.Store.{Call, Done, call, recordCall, batchCall, consolidateCall, consolidatedReply}
 use Rattle.lent.specs.Parts.{lentOf}
 use Rattle.record.specs.Done.{RecordDone}
 use Rattle.batch.specs.Done.{BatchDone}
 use Rattle.bits.specs.Bits.{bits, bitOf}
-use Rattle.edge.specs.Edge.{lentAt, doneAs, unlessRefused, endNo, foundWords, queryNo, queryWords, queriedNo, queriedWords, placeWords, nextNo, pointWords}
+use Rattle.edge.specs.Edge.{lentAt, doneAs, unlessRefused, replyNo, countOn, endNo, foundWords, queryNo, queryWords, queriedNo, queriedWords, placeWords, nextNo, pointWords}
 
 -- ---- the flags cross as a number
 
@@ -47,6 +49,28 @@ record-call l a k c v t n d = rw (d .answer-is, d .lent-is)
 pub batch-call : (l a : Lent) (es : List Entry) (t n : ℕ) → BatchDone l es t n a → doneAs n a ≡ call l (batchCall es t)
 unfolding call
 batch-call l a es t n d = rw (d .answer-is, d .lent-is)
+
+abbrev doneAfter : Consolidated → Lent → Done
+doneAfter a l = record { reply = consolidatedReply a; lent = l }
+
+-- ---- consolidation's outcome, a being the code's answer
+
+module _ (s t : List ℕ) (f g : Flags) (x y old : ℕ) (a : Consolidated) (into : f .wrapped ≡ bits 32 x) (out : bits 32 y ≡ g .wrapped)
+    (e : doneAfter a (lentOf t g) ≡ call (lentOf s f) consolidateCall) where
+  ran : doneAfter a (lentAt t y) ≡ call (lentAt s x) consolidateCall
+  ran = rw (lent-out t g y out, ← lent-in s f x into) e
+
+  pub run-wrote : (k : ℕ) → a ≡ C.Wrote k
+      → (0 ≡ replyNo (call (lentAt s x) consolidateCall .reply))
+      × ((k ≡ countOn (call (lentAt s x) consolidateCall .reply) old) × (lentAt t y ≡ call (lentAt s x) consolidateCall .lent))
+  unfolding replyNo countOn consolidatedReply
+  run-wrote k h = rw (← ran, h) (refl, (refl, refl))
+
+  pub run-refused : (r : Refusal) (m : ℕ) → a ≡ C.Refused r → m ≡ numberOf r
+      → (m ≡ replyNo (call (lentAt s x) consolidateCall .reply))
+      × ((old ≡ countOn (call (lentAt s x) consolidateCall .reply) old) × (lentAt t y ≡ call (lentAt s x) consolidateCall .lent))
+  unfolding replyNo countOn consolidatedReply
+  run-refused r m h i = rw (← ran, h) (i, (refl, refl))
 
 -- ---- a number that a refusal leaves
 

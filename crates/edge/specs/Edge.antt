@@ -17,7 +17,7 @@ use Rattle.model.specs.Words.{numberOf}
 use Rattle.model.specs.Lent.{Lent}
 use Rattle.model.specs.Query.{Answered, QueryReply, found, notFound}
 use Rattle.model.specs.Read.{step}
-use Rattle.model.specs.Store.{Done, doneOr}
+use Rattle.model.specs.Store.{Done, Reply, refused, done, wrote, read, doneOr}
 use Rattle.bits.specs.Bits.{bits, bitOf}
 
 -- an image, and the flags whose number is x
@@ -32,6 +32,22 @@ doneAs n l = record { reply = doneOr n; lent = l }
 unfoldable pub unlessRefused : ℕ → ℕ → ℕ → ℕ
 unlessRefused zero old new = new
 unlessRefused (suc n) old new = old
+
+-- ---- consolidation's answer
+
+-- the answer's number
+unfoldable pub replyNo : Reply → ℕ
+replyNo (refused n) = n
+replyNo done = 0
+replyNo (wrote k) = 0
+replyNo (read a) = 0
+
+-- how many values were written; a refusal leaves the old number
+unfoldable pub countOn : Reply → ℕ → ℕ
+countOn (refused n) old = old
+countOn done old = old
+countOn (wrote k) old = k
+countOn (read a) old = old
 
 -- ---- a query's answer
 

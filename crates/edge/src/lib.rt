@@ -6,9 +6,9 @@ ghost use Rattle.model.specs.Image.{planCheck, imageLength, createCheck, openCh
 ghost use Rattle.model.specs.Lent.{creation, opening};
 ghost use Rattle.model.specs.Record.{entries};
 ghost use Rattle.model.specs.Query.{query, queryAuto};
-ghost use Rattle.model.specs.Store.{call, recordCall, batchCall};
+ghost use Rattle.model.specs.Store.{call, recordCall, batchCall, consolidateCall};
 ghost use Rattle.bits.specs.Bits.{bitOf};
-ghost use Rattle.edge.specs.Edge.{lentAt, doneAs, unlessRefused, endNo, foundWords, queriedNo, queriedWords, queryNo, queryWords, stepAt, placeWords, nextNo, pointWords};
+ghost use Rattle.edge.specs.Edge.{lentAt, doneAs, unlessRefused, replyNo, countOn, endNo, foundWords, queriedNo, queriedWords, queryNo, queryWords, stepAt, placeWords, nextNo, pointWords};
 
 // The number of an answer: 0, or the refusal's.
 fn outcome_number(outcome: model::Outcome) -> u32
@@ -233,5 +233,26 @@ pub extern "C" fn rondo_next(
             1
         }
         model::Next::Finished => 0,
+    }
+}
+
+// Brings every coarser tier up to date, and counts the values written. A refusal leaves `count`; what was done before it stays.
+#[no_mangle]
+pub extern "C" fn rondo_consolidate(image: &mut [u8], flags: &mut u32, count: &mut u64) -> u32
+    ensures number { λ r. ⌜ r ≡ replyNo (call (lentAt (now (image .entry)) (now (flags .entry))) consolidateCall .reply) ⌝ }
+    ensures counted { λ r. ⌜ now (count .exit) ≡ countOn (call (lentAt (now (image .entry)) (now (flags .entry))) consolidateCall .reply) (now (count .entry)) ⌝ }
+    ensures left { λ r. ⌜ lentAt (now (image .exit)) (now (flags .exit)) ≡ call (lentAt (now (image .entry)) (now (flags .entry))) consolidateCall .lent ⌝ }
+{
+    let wrapped = bits::flags_of(*flags);
+    let done = consolidate::consolidate(image, wrapped);
+    let filled = done.flags;
+    *flags = bits::number_of(filled);
+    let answer = done.answer;
+    match answer {
+        model::Consolidated::Wrote(k) => {
+            *count = k;
+            0
+        }
+        model::Consolidated::Refused(r) => model::refusal_number(r),
     }
 }

@@ -108,7 +108,7 @@ pub fn record(
 ) -> Recorded
     ensures { λ r. ⌜ RecordDone (lentOf (now (image .entry)) flags) (handle .schema) (handle .column) value stamp (outcomeNo (r .outcome)) (lentOf (now (image .exit)) (r .flags)) ⌝ }
 {
-    let opened = image::check_image(image);
+    let opened = quick::check(image);
     let model::Outcome::Accepted = opened else {
         return Recorded {
             outcome: opened,

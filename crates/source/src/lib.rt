@@ -68,8 +68,9 @@ fn start_of(slab: &[u8], d: lent::Slab, wrapped: bool, mark: u64) -> u64
     requires { ⌜ (mark < 2 ^ 63) × (d .interval < 2 ^ 63) ⌝ }
     ensures { λ r. ⌜ r ≡ startOf mark (d .interval) (ringOf (now (slab .entry)) wrapped) ⌝ }
 {
+    let interval = d.interval;
     if mark != 0 {
-        return mark + d.interval;
+        return mark + interval;
     }
     let oldest = ends::oldest(slab, d.slots, d.series, wrapped);
     or_zero(oldest)

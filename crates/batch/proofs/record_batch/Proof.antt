@@ -9,8 +9,8 @@ use borrow.Author.Needs.{needs}
 use Rattle.batch.proofs.record_batch.Statement.{statement}
 use Rattle.batch.proofs.record_batch.Tie as tie
 
-check-image-requires : tie.Need-check-image-requires
-check-image-requires c κs = search needs
+check-requires : tie.Need-check-requires
+check-requires c κs = search needs
 
 enum-told : tie.Need-enum-told
 enum-told c = search needs
@@ -25,10 +25,10 @@ returns : tie.Need-returns
 returns c =
     let start = c .before .before .before .before .before .before in
     let e = c .enum-told2 .given .1 in
-    not-opened (lentOf (start .args .image .now) (start .args .flags)) (start .args .stamp) (entries (start .args .batch .now)) (outcomeNo (c .before .before .check-image .result)) (c .before .before .check-image .ensures) (λ z. some-number (c .enum-told2 .given .0 .0) (sym (ap outcomeNo e) ∙ z))
+    not-opened (lentOf (start .args .image .now) (start .args .flags)) (start .args .stamp) (entries (start .args .batch .now)) (outcomeNo (c .before .before .check .result)) (c .before .before .check .ensures) (λ z. some-number (c .enum-told2 .given .0 .0) (sym (ap outcomeNo e) ∙ z))
 
 batch-opened-requires : tie.Need-batch-opened-requires
-batch-opened-requires c κs = sym (c .before .before .before .check-image .ensures) ∙ ap outcomeNo (c .before .enum-told .given .1)
+batch-opened-requires c κs = sym (c .before .before .before .check .ensures) ∙ ap outcomeNo (c .before .enum-told .given .1)
 
 same-length-2 : tie.Need-same-length-2
 same-length-2 c = search needs
@@ -40,7 +40,7 @@ pub record-batch-spec : {M : Type 1} → statement M
 record-batch-spec =
     tie.close
     (tie.spec
-    check-image-requires
+    check-requires
     enum-told
     enum-told-2
     same-length

@@ -7,8 +7,8 @@ use borrow.Author.Needs.{needs}
 use Rattle.record.proofs.record.Statement.{statement}
 use Rattle.record.proofs.record.Tie as tie
 
-check-image-requires : tie.Need-check-image-requires
-check-image-requires c κs = search needs
+check-requires : tie.Need-check-requires
+check-requires c κs = search needs
 
 enum-told : tie.Need-enum-told
 enum-told c = search needs
@@ -23,10 +23,10 @@ returns : tie.Need-returns
 returns c =
     let start = c .before .before .before .before .before in
     let e = c .enum-told2 .given .1 in
-    not-opened (start .args .image .now) (start .args .flags) (start .args .handle .schema) (start .args .handle .column) (start .args .value) (start .args .stamp) (outcomeNo (c .before .before .check-image .result)) (c .before .before .check-image .ensures) (λ z. some-number (c .enum-told2 .given .0 .0) (sym (ap outcomeNo e) ∙ z))
+    not-opened (start .args .image .now) (start .args .flags) (start .args .handle .schema) (start .args .handle .column) (start .args .value) (start .args .stamp) (outcomeNo (c .before .before .check .result)) (c .before .before .check .ensures) (λ z. some-number (c .enum-told2 .given .0 .0) (sym (ap outcomeNo e) ∙ z))
 
 record-opened-requires : tie.Need-record-opened-requires
-record-opened-requires c κs = sym (c .before .before .before .check-image .ensures) ∙ ap outcomeNo (c .before .enum-told .given .1)
+record-opened-requires c κs = sym (c .before .before .before .check .ensures) ∙ ap outcomeNo (c .before .enum-told .given .1)
 
 same-length-2 : tie.Need-same-length-2
 same-length-2 c = search needs
@@ -38,7 +38,7 @@ pub record-spec : {M : Type 1} → statement M
 record-spec =
     tie.close
     (tie.spec
-    check-image-requires
+    check-requires
     enum-told
     enum-told-2
     same-length

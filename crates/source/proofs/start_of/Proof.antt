@@ -9,7 +9,7 @@ add-result : tie.Need-add-result
 add-result c = search needs
 
 returns : tie.Need-returns
-returns c = let a = c .before .before .before .args in start-mark (a .mark) (a .d .interval) (ringOf (a .slab .now) (a .wrapped)) (c .before .if1 .taken)
+returns c = let a = c .before .before .args in start-mark (a .mark) (a .d .interval) (ringOf (a .slab .now) (a .wrapped)) (c .if1 .taken)
 
 oldest-requires : tie.Need-oldest-requires
 oldest-requires c κs = sized (c .before .before .pre .0)

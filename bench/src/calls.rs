@@ -1,0 +1,36 @@
+//! What both sides are asked: a store's tiers, and the calls.
+
+#[derive(Clone, Copy)]
+pub struct Tier {
+    pub interval: u64,
+    pub slots: u64,
+    /// Document 01's number of the function, 0 for none.
+    pub function: u32,
+}
+
+/// Schemas that are alike, each with these tiers and this many series.
+#[derive(Clone)]
+pub struct Plan {
+    pub schemas: u32,
+    pub tiers: Vec<Tier>,
+    pub series: u32,
+}
+
+pub const SECOND: u64 = 1_000_000_000;
+
+pub trait Side {
+    /// Creates the store.
+    fn create(&mut self, plan: &Plan);
+    /// Opens again what was created.
+    fn open(&mut self);
+    fn record(&mut self, column: u32, value: f64, stamp: u64);
+    /// The entries of the batches to come: a value for each column of schema 0.
+    fn entries(&mut self, series: u32);
+    fn batch(&mut self, stamp: u64);
+    /// Reads all points: how many, and their sum.
+    fn query(&mut self, column: u32, tier: u32, start: u64, end: u64) -> (u64, f64);
+    fn query_auto(&mut self, column: u32, start: u64, end: u64) -> (u64, f64);
+    fn consolidate(&mut self) -> u64;
+    /// Sets the mark of the pair of tiers 0 and 1, as if a run had ended there.
+    fn set_mark(&mut self, mark: u64);
+}

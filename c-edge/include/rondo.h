@@ -1,0 +1,218 @@
+/*
+ * rondo.h - time series in ring slabs, in memory that you lend.
+ *
+ * A store is one block of bytes, the image: a table of contents, then a ring of slots for each
+ * tier. Beside it goes one number, the wrap flags: bit i belongs to row i of the table. Keep the
+ * two together, from call to call; the library keeps nothing, allocates nothing and calls nothing.
+ *
+ * Every call may be handed anything: a block of any length with any content, any flags, any
+ * numbers. It answers 0 (RONDO_ACCEPTED) or one refusal below, and returns. You test nothing
+ * first. A refusal leaves every byte, flag and number that you lent as it was; a refused
+ * rondo_consolidate alone keeps what it did before the refusal.
+ *
+ * You owe what C always asks: a pointer and a length that describe memory of yours (a pointer to
+ * no bytes is not null), blocks of one call that do not overlap, and no other thread in them
+ * during the call. Stamps are nanoseconds. Values are doubles by their 64-bit pattern:
+ * rondo_bits and rondo_double convert.
+ *
+ * Link libedge.a (x86-64 Linux). Each function here has the contract that is proved of it in
+ * crates/edge/src/lib.rt.
+ */
+#ifndef RONDO_H
+#define RONDO_H
+
+#include <stddef.h>
+#include <stdint.h>
+#include <string.h>
+
+#ifdef __cplusplus
+extern "C" {
+#endif
+
+/* ---- answers ---- */
+
+enum rondo_answer_number {
+    RONDO_ACCEPTED = 0,
+    RONDO_BAD_IMAGE = 1,            /* header, rows, offsets or lengths; a plan's field that must be 0 */
+    RONDO_NO_TIERS = 2,             /* a schema has no row */
+    RONDO_INVALID_MAX_SERIES = 3,   /* max series is 0 */
+    RONDO_INVALID_TIER_CONFIG = 4,  /* interval or retention is 0 or 2^63 or more, or retention is below interval */
+    RONDO_TOO_MANY_SLOTS = 5,       /* retention / interval is above 1,000,000,000 */
+    RONDO_TIERS_NOT_ORDERED = 6,    /* an interval is not above the finer tier's */
+    RONDO_CONSOLIDATION_ON_HIGHEST_TIER = 7, /* tier 0 has a function */
+    RONDO_LAYOUT_TOO_LARGE = 8,     /* the image would exceed 2^40 bytes */
+    RONDO_SHORT_BUFFER = 9,         /* rondo_create: the image's block is too short */
+    RONDO_CORRUPTED_SLAB = 10,      /* a slab's header; rondo_consolidate: a stamp of 2^63 or more in a source */
+    RONDO_INVALID_HANDLE = 11,      /* no such schema or column */
+    RONDO_INVALID_VALUE = 12,       /* the value is infinite (NaN is accepted) */
+    RONDO_INVALID_TIMESTAMP = 13,   /* the stamp is 0 or 2^63 or more */
+    RONDO_INVALID_TIER = 14,        /* no such tier */
+    RONDO_INVALID_TIME_RANGE = 15,  /* start is not below end */
+    RONDO_NO_CONSOLIDATION_FUNCTION = 16 /* a coarser tier has function 0 */
+};
+
+/* The functions of a coarser tier. */
+enum rondo_function {
+    RONDO_NONE = 0, RONDO_AVERAGE = 1, RONDO_MIN = 2, RONDO_MAX = 3,
+    RONDO_LAST = 4, RONDO_SUM = 5, RONDO_COUNT = 6
+};
+
+/* ---- plans and entries: bytes that you write ---- */
+
+/*
+ * A plan is the head of an image: RONDO_PLAN_SIZE(rows) bytes, written by rondo_put_plan and then
+ * rondo_put_row for each row, by schema and then by tier, finest first. At most 8 schemas and 32
+ * rows. Rows of a schema agree in series and hash; the hash is yours to choose.
+ */
+#define RONDO_PLAN_SIZE(rows) (32 + 64 * (size_t)(rows))
+
+/* A batch's entry: schema, column, value. Write them with rondo_put_entry. */
+#define RONDO_ENTRY_SIZE 16
+
+static inline void rondo_put_number(uint8_t *at, unsigned bytes, uint64_t x) {
+    for (unsigned i = 0; i < bytes; i++, x >>= 8) at[i] = (uint8_t)x;
+}
+
+static inline void rondo_put_plan(uint8_t *plan, uint32_t schemas, uint32_t rows) {
+    memset(plan, 0, RONDO_PLAN_SIZE(rows));
+    memcpy(plan, "RSTO", 4);
+    rondo_put_number(plan + 4, 4, 1);
+    rondo_put_number(plan + 8, 4, schemas);
+    rondo_put_number(plan + 12, 4, rows);
+}
+
+static inline void rondo_put_row(uint8_t *plan, uint32_t row, uint32_t schema, uint32_t tier,
+                                 uint64_t interval_ns, uint64_t retention_ns,
+                                 uint32_t function, uint32_t max_series, uint64_t hash) {
+    uint8_t *at = plan + RONDO_PLAN_SIZE(row);
+    rondo_put_number(at, 4, schema);
+    rondo_put_number(at + 4, 4, tier);
+    rondo_put_number(at + 8, 8, interval_ns);
+    rondo_put_number(at + 16, 8, retention_ns);
+    rondo_put_number(at + 24, 4, function);
+    rondo_put_number(at + 28, 4, max_series);
+    rondo_put_number(at + 56, 8, hash);
+}
+
+static inline void rondo_put_entry(uint8_t *entry, uint32_t schema, uint32_t column, uint64_t value) {
+    rondo_put_number(entry, 4, schema);
+    rondo_put_number(entry + 4, 4, column);
+    rondo_put_number(entry + 8, 8, value);
+}
+
+static inline uint64_t rondo_bits(double value) {
+    uint64_t bits;
+    memcpy(&bits, &value, sizeof bits);
+    return bits;
+}
+
+static inline double rondo_double(uint64_t bits) {
+    double value;
+    memcpy(&value, &bits, sizeof value);
+    return value;
+}
+
+/* ---- the calls ---- */
+
+/*
+ * The size of the image that a plan needs, into *size. Refuses 1 to 8, and then leaves *size.
+ * A longer block than the plan may be lent; what is behind the plan is not read.
+ */
+uint32_t rondo_image_size(const uint8_t *plan, size_t plan_len, uint64_t *size);
+
+/*
+ * Writes the plan's fresh image at the start of `image`, and makes the flags of its rows 0. Later
+ * bytes and flags stay. Refuses 1 to 9.
+ */
+uint32_t rondo_create(const uint8_t *plan, size_t plan_len,
+                      uint8_t *image, size_t image_len, uint32_t *flags);
+
+/*
+ * Checks an image and works out the flags of its rows, for an image whose flags were not kept.
+ * Flags past the rows stay. Refuses 1 to 8 and 10, as every call below does before its own refusals.
+ */
+uint32_t rondo_open(const uint8_t *image, size_t image_len, uint32_t *flags);
+
+/*
+ * Records a value in a series' finest ring. Changes one slot, the ring's cursor and the row's flag.
+ * Refuses 11, 12, 13, in this order.
+ */
+uint32_t rondo_record(uint8_t *image, size_t image_len, uint32_t *flags,
+                      uint32_t schema, uint32_t column, uint64_t value, uint64_t stamp);
+
+/*
+ * Records entries_len / RONDO_ENTRY_SIZE entries at one stamp, all or none; a shorter rest is not
+ * read. No entries: accepted, nothing changes. Refuses 11 for any entry, then 13, then 12.
+ */
+uint32_t rondo_record_batch(uint8_t *image, size_t image_len, uint32_t *flags,
+                            const uint8_t *entries, size_t entries_len, uint64_t stamp);
+
+/* Where a reader stands: the next slot, and how many slots are left. */
+struct rondo_place {
+    uint64_t slot;
+    uint64_t left;
+};
+
+/* A query's answer. */
+struct rondo_answer {
+    uint64_t tier;
+    uint64_t oldest;     /* the ring's ends; 0: it is empty */
+    uint64_t newest;
+    uint64_t start;      /* the range asked for, its end left out */
+    uint64_t end;
+    uint64_t incomplete; /* 1: there may have been older points in the range, else 0 */
+    uint64_t column;
+    uint64_t from;       /* the slab that is read: the image's bytes from `from` up to `to` */
+    uint64_t to;
+    struct rondo_place place;
+};
+
+/* A point: its stamp, and its value's pattern. */
+struct rondo_point {
+    uint64_t stamp;
+    uint64_t value;
+};
+
+/*
+ * Looks a series up in a tier (0 is the finest), for the points from `start` up to `end`, its end
+ * left out. All time is start 0, end UINT64_MAX. Changes *answer alone. Refuses 11, 14, 15.
+ */
+uint32_t rondo_query(const uint8_t *image, size_t image_len, uint32_t flags,
+                     uint32_t schema, uint32_t column, uint32_t tier,
+                     uint64_t start, uint64_t end, struct rondo_answer *answer);
+
+/*
+ * The same in the first tier that covers the range in full, else the last that is not empty, else
+ * the finest. Refuses 11, 15.
+ */
+uint32_t rondo_query_auto(const uint8_t *image, size_t image_len, uint32_t flags,
+                          uint32_t schema, uint32_t column,
+                          uint64_t start, uint64_t end, struct rondo_answer *answer);
+
+/*
+ * One step of a reader over a slab: 1, the point into *point and *place moved on; or 0 at the end,
+ * *point left. Any numbers may be handed in: a place outside the slab is the end.
+ */
+uint32_t rondo_next(const uint8_t *slab, size_t slab_len, uint32_t column,
+                    uint64_t start, uint64_t end,
+                    struct rondo_place *place, struct rondo_point *point);
+
+/* The next point of an answer, from the image that it was made from. */
+static inline uint32_t rondo_next_point(const uint8_t *image, struct rondo_answer *answer,
+                                        struct rondo_point *point) {
+    return rondo_next(image + answer->from, (size_t)(answer->to - answer->from),
+                      (uint32_t)answer->column, answer->start, answer->end,
+                      &answer->place, point);
+}
+
+/*
+ * Brings every coarser tier up to date, and counts the values written into *count. Refuses 16, 10,
+ * 12, 13 by pair of tiers: what it did before stays, *count is left.
+ */
+uint32_t rondo_consolidate(uint8_t *image, size_t image_len, uint32_t *flags, uint64_t *count);
+
+#ifdef __cplusplus
+}
+#endif
+
+#endif

@@ -1,0 +1,81 @@
+/*
+ * A store of seconds, minutes and hours for two series: two hours recorded, consolidated, queried.
+ * tour.rs does the same in Rust and prints the same.
+ */
+#include <inttypes.h>
+#include <stdio.h>
+#include <stdlib.h>
+
+#include "rondo.h"
+
+#define SECOND UINT64_C(1000000000)
+
+static void check(const char *what, uint32_t answer) {
+    if (answer == RONDO_ACCEPTED) return;
+    printf("%s: refused, %" PRIu32 "\n", what, answer);
+    exit(1);
+}
+
+static void show(const uint8_t *image, struct rondo_answer *answer) {
+    struct rondo_point point;
+    uint64_t n = 0;
+    double first = 0, last = 0, sum = 0;
+    while (rondo_next_point(image, answer, &point)) {
+        last = rondo_double(point.value);
+        if (n++ == 0) first = last;
+        sum += last;
+    }
+    printf("tier %" PRIu64 " from %" PRIu64 " to %" PRIu64 "%s: %" PRIu64 " points, first %.6f, last %.6f, mean %.6f\n",
+           answer->tier, answer->oldest / SECOND, answer->newest / SECOND,
+           answer->incomplete ? " (may be incomplete)" : "", n, first, last, n ? sum / (double)n : 0);
+}
+
+int main(void) {
+    uint8_t plan[RONDO_PLAN_SIZE(3)];
+    rondo_put_plan(plan, 1, 3);
+    rondo_put_row(plan, 0, 0, 0, SECOND, 3600 * SECOND, RONDO_NONE, 2, 7);
+    rondo_put_row(plan, 1, 0, 1, 60 * SECOND, 86400 * SECOND, RONDO_AVERAGE, 2, 7);
+    rondo_put_row(plan, 2, 0, 2, 3600 * SECOND, 2592000 * SECOND, RONDO_AVERAGE, 2, 7);
+
+    uint64_t size = 0, count = 0;
+    uint32_t flags = 0;
+    check("size", rondo_image_size(plan, sizeof plan, &size));
+    uint8_t *image = malloc(size);
+    if (!image) return 1;
+    check("create", rondo_create(plan, sizeof plan, image, size, &flags));
+    printf("image of %" PRIu64 " bytes\n", size);
+
+    for (uint64_t s = 3600; s < 3 * 3600; s++) {
+        uint8_t both[2 * RONDO_ENTRY_SIZE];
+        rondo_put_entry(both, 0, 0, rondo_bits((double)(s % 60)));
+        rondo_put_entry(both + RONDO_ENTRY_SIZE, 0, 1, rondo_bits((double)s));
+        check("batch", rondo_record_batch(image, size, &flags, both, sizeof both, s * SECOND));
+        if (s % 3600 == 3599) {
+            check("consolidate", rondo_consolidate(image, size, &flags, &count));
+            printf("second %" PRIu64 ": %" PRIu64 " values written\n", s, count);
+        }
+    }
+
+    struct rondo_answer answer;
+    for (uint32_t tier = 0; tier < 3; tier++) {
+        check("query", rondo_query(image, size, flags, 0, 1, tier, 0, UINT64_MAX, &answer));
+        show(image, &answer);
+    }
+    check("query_auto", rondo_query_auto(image, size, flags, 0, 0, 3600 * SECOND, 7200 * SECOND, &answer));
+    show(image, &answer);
+
+    printf("refused: value %" PRIu32 ", stamp %" PRIu32 ", column %" PRIu32 ", tier %" PRIu32 ", range %" PRIu32 "\n",
+           rondo_record(image, size, &flags, 0, 0, rondo_bits(1 / 0.0), 1),
+           rondo_record(image, size, &flags, 0, 0, 0, 0),
+           rondo_record(image, size, &flags, 0, 2, 0, 1),
+           rondo_query(image, size, flags, 0, 0, 3, 5, 5, &answer),
+           rondo_query(image, size, flags, 0, 0, 0, 5, 5, &answer));
+
+    uint32_t again = 0;
+    check("open", rondo_open(image, size, &again));
+    printf("flags %" PRIu32 ", opened again %" PRIu32 "\n", flags, again);
+    image[0] ^= 1;
+    printf("damaged: %" PRIu32 "\n", rondo_open(image, size, &again));
+    free(image);
+    return 0;
+}

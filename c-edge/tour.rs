@@ -1,0 +1,189 @@
+//! A store of seconds, minutes and hours for two series: two hours recorded, consolidated, queried.
+//! tour.c does the same in C and prints the same. The standard library alone.
+
+/// The calls of libedge.a, as include/rondo.h has them.
+mod edge {
+    #[repr(C)]
+    #[derive(Default)]
+    pub struct Answer {
+        pub tier: u64,
+        pub oldest: u64,
+        pub newest: u64,
+        pub start: u64,
+        pub end: u64,
+        pub incomplete: u64,
+        pub column: u64,
+        pub from: u64,
+        pub to: u64,
+        pub place: [u64; 2],
+    }
+
+    #[link(name = "edge", kind = "static")]
+    unsafe extern "C" {
+        pub fn rondo_image_size(plan: *const u8, plan_len: usize, size: &mut u64) -> u32;
+        pub fn rondo_create(plan: *const u8, plan_len: usize, image: *mut u8, image_len: usize, flags: &mut u32) -> u32;
+        pub fn rondo_open(image: *const u8, image_len: usize, flags: &mut u32) -> u32;
+        pub fn rondo_record(
+            image: *mut u8, image_len: usize, flags: &mut u32, schema: u32, column: u32, value: u64, stamp: u64,
+        ) -> u32;
+        pub fn rondo_record_batch(
+            image: *mut u8, image_len: usize, flags: &mut u32, entries: *const u8, entries_len: usize, stamp: u64,
+        ) -> u32;
+        pub fn rondo_query(
+            image: *const u8, image_len: usize, flags: u32, schema: u32, column: u32, tier: u32, start: u64, end: u64,
+            answer: &mut Answer,
+        ) -> u32;
+        pub fn rondo_query_auto(
+            image: *const u8, image_len: usize, flags: u32, schema: u32, column: u32, start: u64, end: u64,
+            answer: &mut Answer,
+        ) -> u32;
+        pub fn rondo_next(
+            slab: *const u8, slab_len: usize, column: u32, start: u64, end: u64, place: &mut [u64; 2],
+            point: &mut [u64; 2],
+        ) -> u32;
+        pub fn rondo_consolidate(image: *mut u8, image_len: usize, flags: &mut u32, count: &mut u64) -> u32;
+    }
+}
+
+use edge::Answer;
+
+/// A store in memory of its own: each call is safe, since a slice's pointer and length go together.
+struct Store {
+    image: Vec<u8>,
+    flags: u32,
+}
+
+impl Store {
+    fn create(plan: &[u8]) -> Result<Self, u32> {
+        let mut size = 0;
+        accepted(unsafe { edge::rondo_image_size(plan.as_ptr(), plan.len(), &mut size) })?;
+        let mut s = Store { image: vec![0; size as usize], flags: 0 };
+        let (p, i) = (plan, &mut s.image);
+        accepted(unsafe { edge::rondo_create(p.as_ptr(), p.len(), i.as_mut_ptr(), i.len(), &mut s.flags) })?;
+        Ok(s)
+    }
+
+    fn open(&self) -> Result<u32, u32> {
+        let mut flags = 0;
+        accepted(unsafe { edge::rondo_open(self.image.as_ptr(), self.image.len(), &mut flags) })?;
+        Ok(flags)
+    }
+
+    fn record(&mut self, column: u32, value: f64, stamp: u64) -> Result<(), u32> {
+        let i = &mut self.image;
+        let (p, len, bits) = (i.as_mut_ptr(), i.len(), value.to_bits());
+        accepted(unsafe { edge::rondo_record(p, len, &mut self.flags, 0, column, bits, stamp) })
+    }
+
+    fn batch(&mut self, values: &[f64], stamp: u64) -> Result<(), u32> {
+        let mut e = Vec::new();
+        for (column, value) in values.iter().enumerate() {
+            e.extend(0u32.to_le_bytes());
+            e.extend((column as u32).to_le_bytes());
+            e.extend(value.to_bits().to_le_bytes());
+        }
+        let i = &mut self.image;
+        let (p, len) = (i.as_mut_ptr(), i.len());
+        accepted(unsafe { edge::rondo_record_batch(p, len, &mut self.flags, e.as_ptr(), e.len(), stamp) })
+    }
+
+    fn consolidate(&mut self) -> Result<u64, u32> {
+        let (i, mut count) = (&mut self.image, 0);
+        accepted(unsafe { edge::rondo_consolidate(i.as_mut_ptr(), i.len(), &mut self.flags, &mut count) })?;
+        Ok(count)
+    }
+
+    fn query(&self, column: u32, tier: u32, start: u64, end: u64) -> Result<Answer, u32> {
+        let (i, mut a) = (&self.image, Answer::default());
+        accepted(unsafe {
+            edge::rondo_query(i.as_ptr(), i.len(), self.flags, 0, column, tier, start, end, &mut a)
+        })?;
+        Ok(a)
+    }
+
+    fn query_auto(&self, column: u32, start: u64, end: u64) -> Result<Answer, u32> {
+        let (i, mut a) = (&self.image, Answer::default());
+        accepted(unsafe {
+            edge::rondo_query_auto(i.as_ptr(), i.len(), self.flags, 0, column, start, end, &mut a)
+        })?;
+        Ok(a)
+    }
+
+    fn next(&self, a: &mut Answer) -> Option<(u64, f64)> {
+        let slab = &self.image[a.from as usize..a.to as usize];
+        let (p, len, mut point) = (slab.as_ptr(), slab.len(), [0; 2]);
+        let more = unsafe { edge::rondo_next(p, len, a.column as u32, a.start, a.end, &mut a.place, &mut point) };
+        (more != 0).then(|| (point[0], f64::from_bits(point[1])))
+    }
+}
+
+fn accepted(answer: u32) -> Result<(), u32> {
+    if answer == 0 { Ok(()) } else { Err(answer) }
+}
+
+const SECOND: u64 = 1_000_000_000;
+
+/// A plan of one schema with two series: each tier's interval and retention in seconds, and its function.
+fn plan(tiers: &[(u64, u64, u32)]) -> Vec<u8> {
+    let mut out = b"RSTO".to_vec();
+    for x in [1, 1, tiers.len() as u32] {
+        out.extend(x.to_le_bytes());
+    }
+    out.extend([0; 16]);
+    for (tier, &(interval, retention, function)) in tiers.iter().enumerate() {
+        out.extend(0u32.to_le_bytes());
+        out.extend((tier as u32).to_le_bytes());
+        out.extend((interval * SECOND).to_le_bytes());
+        out.extend((retention * SECOND).to_le_bytes());
+        out.extend(function.to_le_bytes());
+        out.extend(2u32.to_le_bytes());
+        out.extend([0; 24]);
+        out.extend(7u64.to_le_bytes());
+    }
+    out
+}
+
+fn show(store: &Store, mut answer: Answer) {
+    let mut values = Vec::new();
+    while let Some((_, value)) = store.next(&mut answer) {
+        values.push(value);
+    }
+    let (n, sum) = (values.len(), values.iter().sum::<f64>());
+    println!(
+        "tier {} from {} to {}{}: {n} points, first {:.6}, last {:.6}, mean {:.6}",
+        answer.tier,
+        answer.oldest / SECOND,
+        answer.newest / SECOND,
+        if answer.incomplete != 0 { " (may be incomplete)" } else { "" },
+        values.first().unwrap_or(&0.0),
+        values.last().unwrap_or(&0.0),
+        if n > 0 { sum / n as f64 } else { 0.0 },
+    );
+}
+
+fn main() -> Result<(), u32> {
+    let mut store = Store::create(&plan(&[(1, 3600, 0), (60, 86_400, 1), (3600, 2_592_000, 1)]))?;
+    println!("image of {} bytes", store.image.len());
+    for s in 3600..3 * 3600 {
+        store.batch(&[(s % 60) as f64, s as f64], s * SECOND)?;
+        if s % 3600 == 3599 {
+            println!("second {s}: {} values written", store.consolidate()?);
+        }
+    }
+    for tier in 0..3 {
+        show(&store, store.query(1, tier, 0, u64::MAX)?);
+    }
+    show(&store, store.query_auto(0, 3600 * SECOND, 7200 * SECOND)?);
+    println!(
+        "refused: value {}, stamp {}, column {}, tier {}, range {}",
+        store.record(0, f64::INFINITY, 1).unwrap_err(),
+        store.record(0, 0.0, 0).unwrap_err(),
+        store.record(2, 0.0, 1).unwrap_err(),
+        store.query(0, 3, 5, 5).err().unwrap(),
+        store.query(0, 0, 5, 5).err().unwrap(),
+    );
+    println!("flags {}, opened again {}", store.flags, store.open()?);
+    store.image[0] ^= 1;
+    println!("damaged: {}", store.open().unwrap_err());
+    Ok(())
+}

@@ -1,0 +1,20 @@
+-- `quick::check` meets its contract: the quick pass, or the plain check. Assumes nothing.
+use mathlib.Core.Path.{sym}
+use borrow.Author.Needs.{needs}
+use Rattle.quick.proofs.check.Statement.{statement}
+use Rattle.quick.proofs.check.Tie as tie
+
+is-good-requires : tie.Need-is-good-requires
+is-good-requires c κs = search needs
+
+returns : tie.Need-returns
+returns c = sym (c .before .is-good .ensures (c .if1 .taken))
+
+check-image-requires : tie.Need-check-image-requires
+check-image-requires c κs = search needs
+
+returns-2 : tie.Need-returns-2
+returns-2 c = search needs
+
+pub check-spec : {M : Type 1} → statement M
+check-spec = tie.close (tie.spec is-good-requires returns check-image-requires returns-2)
