@@ -5,6 +5,7 @@
 //!   bench --side ours|rust        one side
 //!   bench --turns N [--idle]      N turns of a measure once, no timing, or what goes before them alone: for callgrind
 //!   bench --repetitions N         7 unless given
+//!   bench --fill                  creation beside memset on the same slice: bytes a second
 mod calls;
 mod ours;
 mod published;
@@ -178,6 +179,33 @@ fn shown(ns: f64) -> String {
     }
 }
 
+/// Creation of an image beside memset on the same slice, in turn: the median of each, in GB a second.
+fn fill(repetitions: usize) {
+    for slots in [3_600, 100_000, 1_000_000, 4_000_000] {
+        let mut plan = three(2);
+        plan.tiers.truncate(1);
+        plan.tiers[0].slots = slots;
+        let mut side = ours::Ours::default();
+        side.create(&plan);
+        let (mut set, mut made) = (Vec::new(), Vec::new());
+        for _ in 0..repetitions {
+            let start = Instant::now();
+            black_box(side.image()).fill(black_box(0));
+            set.push(start.elapsed().as_secs_f64());
+            let start = Instant::now();
+            side.create(&plan);
+            made.push(start.elapsed().as_secs_f64());
+        }
+        let bytes = side.image().len() as f64;
+        let rate = |t: &mut Vec<f64>| {
+            t.sort_by(f64::total_cmp);
+            bytes / t[t.len() / 2] / 1e9
+        };
+        let (set, made) = (rate(&mut set), rate(&mut made));
+        println!("creation of {bytes:>10} bytes: {made:6.2} GB/s, memset {set:6.2} GB/s, ratio of times {:.2}", set / made);
+    }
+}
+
 fn main() {
     let args: Vec<String> = std::env::args().collect();
     let option = |name: &str| args.iter().position(|a| a == name).map(|i| args[i + 1].as_str());
@@ -201,6 +229,10 @@ fn main() {
                 repetition(&m, &mut *make(name));
             }
         }
+        return;
+    }
+    if args.iter().any(|a| a == "--fill") {
+        fill(repetitions);
         return;
     }
     if args.iter().any(|a| a == "--list") {

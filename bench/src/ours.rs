@@ -45,6 +45,10 @@ pub fn plan_bytes(plan: &Plan) -> Vec<u8> {
 }
 
 impl Ours {
+    pub fn image(&mut self) -> &mut [u8] {
+        &mut self.image
+    }
+
     fn read(&self, answer: [u64; 11]) -> (u64, f64) {
         let [_, _, _, start, end, _, column, from, to, slot, left] = answer;
         let slab = &self.image[from as usize..to as usize];
