@@ -8,6 +8,7 @@ use mathlib.Core.Bool.{Bool, true, false, not, _&&_, cond}
 use mathlib.Core.List.{List}
 use lib.Dec.{leb, ltb}
 use lib.ListN.{length}
+use Rattle.model.specs.declared.Place.{Place}
 use Rattle.model.specs.declared.Stepped.{Stepped}
 use Rattle.model.specs.declared.Next.the-variants.{Handed, Finished}
 use Rattle.model.specs.Bytes.{get}
@@ -31,47 +32,52 @@ cells-fit n m h k =
     let b : m + 1 ≤ 4294967296 = omega arith in
     omega (arith, mul-le-mul a b)
 
-module _ (s : List ℕ) (c i : ℕ) {n m : ℕ} (n-is : n ≡ get 4 s 16) (m-is : m ≡ get 4 s 20) (header : 64 ≤ length s) where
-  by-sizes : readable s c i ≡ (leb (slabLength n m) (length s) && ltb c m && ltb i n)
+module _ (s : List ℕ) (c : ℕ) (p : Place) {n m : ℕ} (n-is : n ≡ get 4 s 16) (m-is : m ≡ get 4 s 20) (header : 64 ≤ length s) where
+  by-sizes : readable s c p ≡ (leb (slabLength n m) (length s) && ltb c m && ltb (p .slot) n && leb (p .left) n)
   unfolding readable slots series
   by-sizes = rw (yes-le 64 (length s) header, n-is, m-is)
 
   -- no room for the directory, or none for stamps and cells
-  pub no-directory : length s - 64 < 4 * m → false ≡ readable s c i
+  pub no-directory : length s - 64 < 4 * m → false ≡ readable s c p
   no-directory h = sym (by-sizes ∙ rw (no-le (slabLength n m) (length s) (omega (arith, slab-length n m))))
 
-  pub no-room : (length s - 64 - 4 * m) / 8 < n * (m + 1) → false ≡ readable s c i
+  pub no-room : (length s - 64 - 4 * m) / 8 < n * (m + 1) → false ≡ readable s c p
   no-room h = sym (by-sizes ∙ rw (no-le (slabLength n m) (length s) (omega (arith, slab-length n m))))
 
   module _ (directory-in : 4 * m ≤ length s - 64) (room : n * (m + 1) ≤ (length s - 64 - 4 * m) / 8) where
     whole : leb (slabLength n m) (length s) ≡ true
     whole = yes-le (slabLength n m) (length s) (omega (arith, slab-length n m))
 
-    pub no-column : m ≤ c → false ≡ readable s c i
+    pub no-column : m ≤ c → false ≡ readable s c p
     no-column h = sym (by-sizes ∙ rw (whole, no-lt c m h))
 
-    pub slot-decides : c < m → ltb i n ≡ readable s c i
-    slot-decides h = sym (by-sizes ∙ rw (whole, yes-lt c m h))
+    pub no-slot : c < m → n ≤ p .slot → false ≡ readable s c p
+    no-slot h k = sym (by-sizes ∙ rw (whole, yes-lt c m h, no-lt (p .slot) n k))
 
-pub unreadable : (s : List ℕ) (c i : ℕ) → length s < 64 → false ≡ readable s c i
+    pub left-decides : c < m → p .slot < n → leb (p .left) n ≡ readable s c p
+    left-decides h k = sym (by-sizes ∙ rw (whole, yes-lt c m h, yes-lt (p .slot) n k))
+
+pub unreadable : (s : List ℕ) (c : ℕ) (p : Place) → length s < 64 → false ≡ readable s c p
 unfolding readable
-unreadable s c i h = rw (no-le 64 (length s) h)
+unreadable s c p h = rw (no-le 64 (length s) h)
 
 -- what a passed test says
-module _ (s : List ℕ) (c i : ℕ) (h : readable s c i ≡ true) where
-  parts : (leb 64 (length s) && leb (slabLength (slots s) (series s)) (length s) ≡ true) × (ltb c (series s) ≡ true) × (ltb i (slots s) ≡ true)
+module _ (s : List ℕ) (c : ℕ) (p : Place) (h : readable s c p ≡ true) where
+  parts : (leb 64 (length s) && leb (slabLength (slots s) (series s)) (length s) ≡ true) × (ltb c (series s) ≡ true) × (ltb (p .slot) (slots s) ≡ true)
   unfolding readable
-  parts = split3 (leb 64 (length s) && leb (slabLength (slots s) (series s)) (length s)) (ltb c (series s)) (ltb i (slots s)) h
+  parts =
+      split3 (leb 64 (length s) && leb (slabLength (slots s) (series s)) (length s)) (ltb c (series s)) (ltb (p .slot) (slots s))
+      (and-left (leb 64 (length s) && leb (slabLength (slots s) (series s)) (length s) && ltb c (series s) && ltb (p .slot) (slots s)) (leb (p .left) (slots s)) h)
 
   pub header-there : 64 ≤ length s
   header-there = le-is 64 (length s) (and-left (leb 64 (length s)) (leb (slabLength (slots s) (series s)) (length s)) (parts .0))
 
-  pub held : {n m : ℕ} → n ≡ get 4 s 16 → m ≡ get 4 s 20 → Held s n m × (c < m) × (i < n)
-  held {n} {m} p q =
-      let sl : slots s ≡ n = unfold slots in (sym p) in
+  pub held : {n m : ℕ} → n ≡ get 4 s 16 → m ≡ get 4 s 20 → Held s n m × (c < m) × (p .slot < n)
+  held {n} {m} e q =
+      let sl : slots s ≡ n = unfold slots in (sym e) in
       let se : series s ≡ m = unfold series in (sym q) in
       let w = le-is (slabLength (slots s) (series s)) (length s) (and-right (leb 64 (length s)) (leb (slabLength (slots s) (series s)) (length s)) (parts .0)) in
-      (record { whole = rw (sl, se) at w; slots-is = sl; series-is = se }, rw se at (lt-is c (series s) (parts .1)), rw sl at (lt-is i (slots s) (parts .2)))
+      (record { whole = rw (sl, se) at w; slots-is = sl; series-is = se }, rw se at (lt-is c (series s) (parts .1)), rw sl at (lt-is (p .slot) (slots s) (parts .2)))
 
 -- ---- stamps and cells at the places that the code works out
 

@@ -5,9 +5,9 @@ ghost use Prim.Native.Nat.{_<_};
 ghost use Rattle.model.specs.Read.{readable, stepFrom, step};
 ghost use Rattle.reader.specs.Held.{Held};
 
-// Slab, column and slot can be read: the slab is as long as its header says.
-fn is_readable(slab: &[u8], column: u32, slot: usize) -> bool
-    ensures { λ r. ⌜ r ≡ readable (now (slab .entry)) column slot ⌝ }
+// Slab, column and place can be read: the slab is as long as its header says, and no more slots are left than it has.
+pub fn is_readable(slab: &[u8], column: u32, place: model::Place) -> bool
+    ensures { λ r. ⌜ r ≡ readable (now (slab .entry)) column place ⌝ }
 {
     if slab.len() < 64 {
         return false;
@@ -24,7 +24,10 @@ fn is_readable(slab: &[u8], column: u32, slot: usize) -> bool
     if (column as u64) >= m {
         return false;
     }
-    (slot as u64) < n
+    if (place.slot as u64) >= n {
+        return false;
+    }
+    (place.left as u64) <= n
 }
 
 // From a place on: the first slot that is handed out, and the place behind it.
@@ -85,8 +88,7 @@ fn step_from(
 pub fn step(slab: &[u8], column: u32, start: u64, end: u64, place: model::Place) -> model::Stepped
     ensures { λ r. ⌜ r ≡ step (now (slab .entry)) column start end place ⌝ }
 {
-    let slot = place.slot;
-    let reads = is_readable(slab, column, slot);
+    let reads = is_readable(slab, column, place);
     if reads {
         let n = field::get_u32(slab, 16) as usize;
         let m = field::get_u32(slab, 20) as usize;
@@ -95,7 +97,7 @@ pub fn step(slab: &[u8], column: u32, start: u64, end: u64, place: model::Place)
     model::Stepped {
         next: model::Next::Finished,
         place: model::Place {
-            slot: slot,
+            slot: place.slot,
             left: 0,
         },
     }

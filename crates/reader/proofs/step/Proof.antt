@@ -11,13 +11,13 @@ is-readable-requires : tie.Need-is-readable-requires
 is-readable-requires c κs = search needs
 
 get-u32-requires : tie.Need-get-u32-requires
-get-u32-requires c κs = omega (arith, header-there (c .before .before .before .args .slab .now) (c .before .before .before .args .column) (c .before .before .before .args .place .slot) (sym (c .before .is-readable .ensures) ∙ c .if1 .taken))
+get-u32-requires c κs = omega (arith, header-there (c .before .before .before .args .slab .now) (c .before .before .before .args .column) (c .before .before .before .args .place) (sym (c .before .is-readable .ensures) ∙ c .if1 .taken))
 
 get-u32-requires-2 : tie.Need-get-u32-requires-2
-get-u32-requires-2 c κs = omega (arith, header-there (c .before .before .before .before .args .slab .now) (c .before .before .before .before .args .column) (c .before .before .before .before .args .place .slot) (sym (c .before .before .is-readable .ensures) ∙ c .before .if1 .taken))
+get-u32-requires-2 c κs = omega (arith, header-there (c .before .before .before .before .args .slab .now) (c .before .before .before .before .args .column) (c .before .before .before .before .args .place) (sym (c .before .before .is-readable .ensures) ∙ c .before .if1 .taken))
 
 step-from-requires : tie.Need-step-from-requires
-step-from-requires c κs = let h = held (c .before .before .before .before .before .args .slab .now) (c .before .before .before .before .before .args .column) (c .before .before .before .before .before .args .place .slot) (sym (c .before .before .before .is-readable .ensures) ∙ c .before .before .if1 .taken) (c .before .get-u32 .ensures .0) (c .get-u322 .ensures .0) in (h .0, (h .1, h .2))
+step-from-requires c κs = let h = held (c .before .before .before .before .before .args .slab .now) (c .before .before .before .before .before .args .column) (c .before .before .before .before .before .args .place) (sym (c .before .before .before .is-readable .ensures) ∙ c .before .before .if1 .taken) (c .before .get-u32 .ensures .0) (c .get-u322 .ensures .0) in (h .0, (h .1, h .2))
 
 returns : tie.Need-returns
 unfolding step
