@@ -31,7 +31,7 @@ pub fn is_readable(slab: &[u8], column: u32, place: model::Place) -> bool
 }
 
 // From a place on: the first slot that is handed out, and the place behind it.
-fn step_from(
+pub fn step_from(
     slab: &[u8],
     n: usize,
     m: usize,
