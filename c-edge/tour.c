@@ -30,6 +30,21 @@ static void show(const uint8_t *image, struct rondo_answer *answer) {
            answer->incomplete ? " (may be incomplete)" : "", n, first, last, n ? sum / (double)n : 0);
 }
 
+/* The same reader, sixteen points a call. */
+static void show_sixteen(const uint8_t *image, struct rondo_answer *answer) {
+    struct rondo_point points[16];
+    uint64_t calls = 0, n = 0;
+    double sum = 0;
+    size_t got;
+    do {
+        got = rondo_read_points(image, answer, points, 16);
+        calls++;
+        for (size_t i = 0; i < got; i++) sum += rondo_double(points[i].value);
+        n += got;
+    } while (got == 16);
+    printf("sixteen at a time: %" PRIu64 " points in %" PRIu64 " calls, mean %.6f\n", n, calls, n ? sum / (double)n : 0);
+}
+
 int main(void) {
     uint8_t plan[RONDO_PLAN_SIZE(3)];
     rondo_put_plan(plan, 1, 3);
@@ -63,6 +78,8 @@ int main(void) {
     }
     check("query_auto", rondo_query_auto(image, size, flags, 0, 0, 3600 * SECOND, 7200 * SECOND, &answer));
     show(image, &answer);
+    check("query_auto", rondo_query_auto(image, size, flags, 0, 1, 3600 * SECOND, 7200 * SECOND, &answer));
+    show_sixteen(image, &answer);
 
     printf("refused: value %" PRIu32 ", stamp %" PRIu32 ", column %" PRIu32 ", tier %" PRIu32 ", range %" PRIu32 "\n",
            rondo_record(image, size, &flags, 0, 0, rondo_bits(1 / 0.0), 1),

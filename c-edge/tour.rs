@@ -41,6 +41,10 @@ mod edge {
             slab: *const u8, slab_len: usize, column: u32, start: u64, end: u64, place: &mut [u64; 2],
             point: &mut [u64; 2],
         ) -> u32;
+        pub fn rondo_read(
+            slab: *const u8, slab_len: usize, column: u32, start: u64, end: u64, place: &mut [u64; 2],
+            words: *mut u64, words_len: usize,
+        ) -> usize;
         pub fn rondo_consolidate(image: *mut u8, image_len: usize, flags: &mut u32, count: &mut u64) -> u32;
     }
 }
@@ -115,6 +119,14 @@ impl Store {
         let more = unsafe { edge::rondo_next(p, len, a.column as u32, a.start, a.end, &mut a.place, &mut point) };
         (more != 0).then(|| (point[0], f64::from_bits(point[1])))
     }
+
+    /// The next points, as many as there is room for: stamp and value's pattern.
+    fn read(&self, a: &mut Answer, points: &mut [[u64; 2]]) -> usize {
+        let slab = &self.image[a.from as usize..a.to as usize];
+        let (p, len, words) = (slab.as_ptr(), slab.len(), points.as_flattened_mut());
+        let (w, n) = (words.as_mut_ptr(), words.len());
+        unsafe { edge::rondo_read(p, len, a.column as u32, a.start, a.end, &mut a.place, w, n) }
+    }
 }
 
 fn accepted(answer: u32) -> Result<(), u32> {
@@ -161,6 +173,21 @@ fn show(store: &Store, mut answer: Answer) {
     );
 }
 
+/// The same reader, sixteen points a call.
+fn show_sixteen(store: &Store, mut answer: Answer) {
+    let (mut points, mut calls, mut n, mut sum) = ([[0; 2]; 16], 0, 0, 0.0);
+    loop {
+        let got = store.read(&mut answer, &mut points);
+        calls += 1;
+        sum += points[..got].iter().map(|p| f64::from_bits(p[1])).sum::<f64>();
+        n += got;
+        if got < 16 {
+            break;
+        }
+    }
+    println!("sixteen at a time: {n} points in {calls} calls, mean {:.6}", if n > 0 { sum / n as f64 } else { 0.0 });
+}
+
 fn main() -> Result<(), u32> {
     let mut store = Store::create(&plan(&[(1, 3600, 0), (60, 86_400, 1), (3600, 2_592_000, 1)]))?;
     println!("image of {} bytes", store.image.len());
@@ -174,6 +201,7 @@ fn main() -> Result<(), u32> {
         show(&store, store.query(1, tier, 0, u64::MAX)?);
     }
     show(&store, store.query_auto(0, 3600 * SECOND, 7200 * SECOND)?);
+    show_sixteen(&store, store.query_auto(1, 3600 * SECOND, 7200 * SECOND)?);
     println!(
         "refused: value {}, stamp {}, column {}, tier {}, range {}",
         store.record(0, f64::INFINITY, 1).unwrap_err(),

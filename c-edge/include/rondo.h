@@ -206,6 +206,23 @@ static inline uint32_t rondo_next_point(const uint8_t *image, struct rondo_answe
 }
 
 /*
+ * Many steps in one call: stores the next points of a reader, as many as `words_len` / 2 has room
+ * for, moves *place behind them and answers how many there are. Fewer than there is room for: the
+ * reader is at its end. Words behind the stored points are left.
+ */
+size_t rondo_read(const uint8_t *slab, size_t slab_len, uint32_t column,
+                  uint64_t start, uint64_t end,
+                  struct rondo_place *place, uint64_t *words, size_t words_len);
+
+/* The next points of an answer, at most `room`, from the image that it was made from. */
+static inline size_t rondo_read_points(const uint8_t *image, struct rondo_answer *answer,
+                                       struct rondo_point *points, size_t room) {
+    return rondo_read(image + answer->from, (size_t)(answer->to - answer->from),
+                      (uint32_t)answer->column, answer->start, answer->end,
+                      &answer->place, (uint64_t *)points, 2 * room);
+}
+
+/*
  * Brings every coarser tier up to date, and counts the values written into *count. Refuses 16, 10,
  * 12, 13 by pair of tiers: what it did before stays, *count is left.
  */

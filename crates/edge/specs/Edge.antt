@@ -19,6 +19,7 @@ use Rattle.model.specs.Query.{Answered, QueryReply, found, notFound}
 use Rattle.model.specs.Read.{step}
 use Rattle.model.specs.Store.{Done, Reply, refused, done, wrote, read, doneOr}
 use Rattle.bits.specs.Bits.{bits, bitOf}
+use Rattle.fetch.specs.Fetch.{Fetch, fetchUpTo}
 
 -- an image, and the flags whose number is x
 abbrev pub lentAt : List ℕ → ℕ → Lent
@@ -90,6 +91,10 @@ stepAt s c start end p = step s c start end (record { slot = getD p 0 0; left = 
 
 abbrev pub placeWords : Place → List ℕ
 placeWords p = p .slot ∷ p .left ∷ []
+
+-- up to k steps from the place on
+abbrev pub fetchAt : ℕ → List ℕ → ℕ → ℕ → ℕ → List ℕ → Fetch
+fetchAt k s c start end p = fetchUpTo k s c start end (record { slot = getD p 0 0; left = getD p 1 0 })
 
 -- 1 for a point, 0 at the end
 unfoldable pub nextNo : Next → ℕ

@@ -1,6 +1,9 @@
 // The calls as programs in C and in Rust link them (include/rondo.h): numbers and byte slices alone. The flags are one number, bit i row i's flag, so every
 // number can be lent. Each answers 0, or document 01's number of its refusal. No caller tests anything first.
 ghost use mathlib.Core.Path.{_≡_};
+ghost use Prim.Native.Nat.{_/_};
+ghost use lib.ListN.{length};
+ghost use lib.Seq.{sets};
 ghost use Rattle.model.specs.Words.{outcomeNo};
 ghost use Rattle.model.specs.Image.{planCheck, imageLength, createCheck, openCheck};
 ghost use Rattle.model.specs.Lent.{creation, opening};
@@ -8,7 +11,8 @@ ghost use Rattle.model.specs.Record.{entries};
 ghost use Rattle.model.specs.Query.{query, queryAuto};
 ghost use Rattle.model.specs.Store.{call, recordCall, batchCall, consolidateCall};
 ghost use Rattle.bits.specs.Bits.{bitOf};
-ghost use Rattle.edge.specs.Edge.{lentAt, doneAs, unlessRefused, replyNo, countOn, endNo, foundWords, queriedNo, queriedWords, queryNo, queryWords, stepAt, placeWords, nextNo, pointWords};
+ghost use Rattle.fetch.specs.Fetch.{words};
+ghost use Rattle.edge.specs.Edge.{lentAt, doneAs, unlessRefused, replyNo, countOn, endNo, foundWords, queriedNo, queriedWords, queryNo, queryWords, stepAt, placeWords, nextNo, pointWords, fetchAt};
 
 // The number of an answer: 0, or the refusal's.
 fn outcome_number(outcome: model::Outcome) -> u32
@@ -234,6 +238,31 @@ pub extern "C" fn rondo_next(
         }
         model::Next::Finished => 0,
     }
+}
+
+// Steps of a query's reader in one call: stores points, two words each (stamp, value), as many as `points` has room for, and answers how many. Fewer than there
+// is room for: the reader is at its end.
+#[no_mangle]
+pub extern "C" fn rondo_read(
+    slab: &[u8],
+    column: u32,
+    start: u64,
+    end: u64,
+    place: &mut [usize; 2],
+    points: &mut [u64],
+) -> usize
+    ensures count { λ r. ⌜ r ≡ length (fetchAt (length (now (points .entry)) / 2) (now (slab .entry)) column start end (now (place .entry)) .points) ⌝ }
+    ensures moved { λ r. ⌜ now (place .exit) ≡ placeWords (fetchAt (length (now (points .entry)) / 2) (now (slab .entry)) column start end (now (place .entry)) .place) ⌝ }
+    ensures stored { λ r. ⌜ now (points .exit) ≡ sets (now (points .entry)) 0 (words (fetchAt (length (now (points .entry)) / 2) (now (slab .entry)) column start end (now (place .entry)) .points)) ⌝ }
+{
+    let from = model::Place {
+        slot: place[0],
+        left: place[1],
+    };
+    let fetched = fetch::fetch(slab, column, start, end, from, points);
+    let to = fetched.place;
+    *place = [to.slot, to.left];
+    fetched.count
 }
 
 // Brings every coarser tier up to date, and counts the values written. A refusal leaves `count`; what was done before it stays.
