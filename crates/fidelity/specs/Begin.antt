@@ -45,7 +45,7 @@ module _ (S : Setup) (l : Lent) (accepted : createCheck (S .plan) (l .image) ≡
 
   pub begins : Between S (creation (S .plan) l) [] 0 0 false
   begins =
-      let h : 0 < tierCount S = omega (arith, S .many) in
+      let h = S .some in
       record {
         base = base;
         state = blank-state (firstNo S 0) (blank 0 h);

@@ -1,3 +1,4 @@
+pub mod Stronger
 pub mod Values
 pub mod Exact
 pub mod Sums
@@ -6,5 +7,6 @@ pub mod Begin
 pub mod Setting
 pub mod Due
 pub mod Story
+pub mod Clauses
 pub mod Theorem
 pub mod Instance

@@ -1,51 +1,58 @@
 -- The tiers of a suited plan: each interval is a whole number of the finer one's, the coarsest a whole number of each, and every ring spans one coarsest
 -- interval. Assumes nothing.
 use Prim.Native.Nat.{ℕ, zero, suc, _+_, _-_, _*_, _/_, _≤_, _<_}
-use native.Mathlib.Nat.{mul-assoc, mul-pos, mul-div-cancel, mul-le-mul-right, le-of-mul-le-mul-right}
+use native.Mathlib.Nat.{zero-mul, mul-assoc, mul-pos, mul-div-cancel, mul-le-mul-right, le-of-mul-le-mul-right}
 use native.Mathlib.Omega.{arith}
 use mathlib.Core.Path.{_≡_, sym, ap, _∙_, subst}
 use mathlib.Core.List.{List, []}
-use Rattle.model.specs.Image.{schemas, rowCount, rowAt, rowSlots, layoutCheck}
+use Rattle.model.specs.Image.{rowCount, rowAt, rowSlots, layoutCheck}
 use Rattle.model.specs.Lent.{Lent}
 use Rattle.frame.specs.Checks.{Shape, tiers-ok}
-use Rattle.frame.specs.Tiers.{series-one}
+use Rattle.frame.specs.Tiers.{tier-row, some-tier, series-one}
+use Rattle.fresh.specs.FreshImage.{plan-parts}
 use Rattle.samples.specs.Lists.{multiple}
-use Rattle.samples.specs.Suited.{Suited}
+use Rattle.fidelity.specs.Stronger.{Planned}
 use Rattle.fidelity.specs.Values.{Ratios, tierLong}
 
--- a plan that creation accepts, of one schema, and suited
-pub record Planned (p : List ℕ) : Type 0 where
-  pub shape-is : Shape p
-  pub layout-is : layoutCheck p ≡ 0
-  pub one-schema : schemas p ≡ 1
-  pub suited-is : Suited p
-
-abbrev pub coarsest : List ℕ → ℕ
-coarsest p = rowAt p (rowCount p - 1) .interval
+abbrev pub coarsestOf : List ℕ → ℕ
+coarsestOf p = rowAt p (rowCount p - 1) .interval
 
 -- so many intervals of tier k are one of tier k + 1, and so many are a coarsest one
 unfoldable pub ratio : List ℕ → ℕ → ℕ
 ratio p k = rowAt p (suc k) .interval / rowAt p k .interval
 
 unfoldable pub per : List ℕ → ℕ → ℕ
-per p k = coarsest p / rowAt p k .interval
+per p k = coarsestOf p / rowAt p k .interval
 
-module _ {p : List ℕ} (ok : Planned p) where
+module _ {p buf : List ℕ} (ok : Planned p buf) where
+  shape-is : Shape p
+  shape-is = plan-parts p buf (ok .accepted) .0 .shape-is
+
+  layout-is : layoutCheck p ≡ 0
+  layout-is = plan-parts p buf (ok .accepted) .0 .layout-is
+
+  -- its schema has a tier
+  pub some-rows : 0 < rowCount p
+  some-rows = omega (arith, tier-row p shape-is 0 0 (some-tier p shape-is layout-is 0 (omega (arith, ok .one-schema))) .there)
+
   pub long : (k : ℕ) → k < rowCount p → 0 < rowAt p k .interval
-  long k h = tiers-ok p (ok .shape-is) (ok .layout-is) k h .long
+  long k h = tiers-ok p shape-is layout-is k h .long
 
   pub next-interval : (k : ℕ) → suc k < rowCount p → rowAt p (suc k) .interval ≡ ratio p k * rowAt p k .interval
   unfolding ratio
-  next-interval k h = multiple (rowAt p (suc k) .interval) (rowAt p k .interval) (ok .suited-is .rungs k h .whole)
+  next-interval k h = multiple (rowAt p (suc k) .interval) (rowAt p k .interval) (ok .whole k h)
 
   pub ratio-in : (k : ℕ) → suc k < rowCount p → (0 < ratio p k) × (ratio p k ≤ 4096)
-  unfolding ratio
-  ratio-in k h = let r = ok .suited-is .rungs k h in (omega (arith, r .least), r .most)
+  ratio-in k h = (some (ratio p k) (next-interval k h), unfold ratio in (ok .most k h))
+    where
+      some : (r : ℕ) → rowAt p (suc k) .interval ≡ r * rowAt p k .interval → 0 < r
+      some zero e = absurd (omega (arith, e ∙ zero-mul (rowAt p k .interval), long (suc k) h))
+      some (suc r) e = omega arith
 
-  -- the coarsest p interval in intervals of tier k, from the coarsest p tier down
+  -- the coarsest interval in intervals of tier k, from the coarsest tier down
   record Whole (k : ℕ) : Type 0 where
     many : ℕ
-    whole : coarsest p ≡ many * rowAt p k .interval
+    whole : coarsestOf p ≡ many * rowAt p k .interval
     some : 0 < many
 
   down : (j k : ℕ) → suc (k + j) ≡ rowCount p → Whole k
@@ -68,7 +75,7 @@ module _ {p : List ℕ} (ok : Planned p) where
   at : (k : ℕ) → k < rowCount p → Whole k
   at k h = down (rowCount p - suc k) k (omega arith)
 
-  pub coarsest-is : (k : ℕ) → k < rowCount p → coarsest p ≡ per p k * rowAt p k .interval
+  pub coarsest-is : (k : ℕ) → k < rowCount p → coarsestOf p ≡ per p k * rowAt p k .interval
   coarsest-is k h = at k h .whole ∙ ap (λ (v : ℕ). v * rowAt p k .interval) (sym (per-whole k h (at k h)))
 
   pub some-per : (k : ℕ) → k < rowCount p → 0 < per p k
@@ -84,7 +91,7 @@ module _ {p : List ℕ} (ok : Planned p) where
   pub span : (k : ℕ) → k < rowCount p → per p k ≤ rowSlots (rowAt p k)
   span k h =
       le-of-mul-le-mul-right {k = rowAt p k .interval}
-      (subst (λ (v : ℕ). v ≤ rowSlots (rowAt p k) * rowAt p k .interval) (coarsest-is k h) (ok .suited-is .spans k h)) (long k h)
+      (subst (λ (v : ℕ). v ≤ rowSlots (rowAt p k) * rowAt p k .interval) (coarsest-is k h) (ok .spans k h)) (long k h)
 
   -- the finest interval is the least
   pub finest-least : (k : ℕ) → k < rowCount p → rowAt p 0 .interval ≤ rowAt p k .interval
@@ -117,4 +124,4 @@ module _ {p : List ℕ} (ok : Planned p) where
   pub series-same : (k : ℕ) → k < rowCount p → rowAt p k .series ≡ rowAt p 0 .series
   series-same k h =
       let l : Lent = record { image = p; flags = [] } in
-      sym (series-one l (ok .shape-is) (ok .one-schema) k h) ∙ series-one l (ok .shape-is) (ok .one-schema) 0 (omega arith)
+      sym (series-one l shape-is (ok .one-schema) k h) ∙ series-one l shape-is (ok .one-schema) 0 (omega arith)

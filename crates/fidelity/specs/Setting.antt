@@ -14,7 +14,8 @@ use Rattle.samples.specs.Supposed.{Spans}
 use Rattle.runs.specs.Setup.{Setup}
 use Rattle.runs.specs.Between.{Fits}
 use Rattle.fidelity.specs.Values.{tierLong, tierValue, Offsets, finite-bits, value-finite, value-given}
-use Rattle.fidelity.specs.Plan.{Planned, ratio, coarsest, per, next-interval, ratio-in, coarsest-is, some-per, next-per, span, finest-least, per-ticks, ratios, series-same}
+use Rattle.fidelity.specs.Stronger.{Planned}
+use Rattle.fidelity.specs.Plan.{ratio, coarsestOf, per, some-rows, next-interval, ratio-in, coarsest-is, some-per, next-per, span, finest-least, per-ticks, ratios, series-same}
 
 -- column c's pattern at each tick, d apart
 abbrev pub tickValue : ℕ → List Sample → ℕ → ℕ → ℕ
@@ -22,11 +23,11 @@ tickValue d xs c q = valueAt c (q * d) xs
 
 -- samples in whole coarsest intervals, steady at the finest, their stamps below 2^63
 pub record Supplied (p : List ℕ) (xs : List Sample) : Type 0 where
-  pub span-is : Spans (rowAt p 0 .interval) (coarsest p) (per p 0) xs
+  pub span-is : Spans (rowAt p 0 .interval) (coarsestOf p) (per p 0) xs
   pub steady-is : Steady (rowAt p 0 .interval) (span-is .A * per p 0) (span-is .Z * per p 0) xs
   pub lowest : lastOf xs < 2 ^ 63
 
-module _ {p : List ℕ} (ok : Planned p) {xs : List Sample} (h : Supplied p xs) where
+module _ {p buf : List ℕ} (ok : Planned p buf) {xs : List Sample} (h : Supplied p xs) where
   -- a used column has one sample at every tick of every tier's windows
   pub tick-once : (c k q : ℕ) → k < rowCount p → used c xs ≡ true → h .span-is .A * per p k ≤ q → q < (h .span-is .A + h .span-is .Z) * per p k
       → (i : ℕ) → q * tierLong (ratio p) k ≤ i → i < suc q * tierLong (ratio p) k → count (isAt c (i * rowAt p 0 .interval)) xs ≡ 1
@@ -54,16 +55,16 @@ module _ {p : List ℕ} (ok : Planned p) {xs : List Sample} (h : Supplied p xs) 
   setting = record {
     plan = p;
     columns = rowAt p 0 .series;
-    coarsest = coarsest p;
+    coarsest = coarsestOf p;
     first = h .span-is .A;
     most = h .span-is .Z;
     per = per p;
     ratio = ratio p;
     isUsed = λ c. used c xs;
     value = λ k c q. tierValue (ratio p) (tickValue (rowAt p 0 .interval) xs c) k q;
-    many = ok .suited-is .many;
+    some = some-rows ok;
     series-is = series-same ok;
-    average = λ k l. ok .suited-is .rungs k l .averages;
+    average = ok .average;
     coarsest-is = coarsest-is ok;
     next-interval = next-interval ok;
     next-per = next-per ok;

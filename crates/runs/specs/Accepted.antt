@@ -1,5 +1,5 @@
--- What a recording says by being accepted: the image passes the checks, the handle is good, the stamp is below 2^63. So in any list of calls every sample's
--- stamp is, and there is a sample only where the store's image passes the checks. Assumes nothing.
+-- What a recording says by being accepted: the image passes the checks, the handle is good, the stamp is not 0 and below 2^63. So in any list of calls every
+-- sample's stamp is, and there is a sample only where the store's image passes the checks. Assumes nothing.
 use Prim.Native.Nat.{ℕ, zero, suc, _^_, _<_}
 use native.Mathlib.Omega.{arith}
 use mathlib.Core.Path.{_≡_, refl}
@@ -12,7 +12,7 @@ use Rattle.model.specs.Lent.{Lent}
 use Rattle.model.specs.Record.{Entry, handleOk, stampOk, recordCheck, everyEntry, batchCheck}
 use Rattle.model.specs.Store.{Call, recordCall, batchCall, queryCall, autoCall, consolidateCall, call}
 use Rattle.model.specs.Demand.{Sample, took, ifAccepted, eventsOf, events, samplesIn, firstOf, lastOf}
-use Rattle.laws.specs.Tests.{and-right, lt-is}
+use Rattle.laws.specs.Tests.{and-left, and-right, lt-is}
 use Rattle.frame.specs.Checks.{first-zero, unless-zero}
 use Rattle.frame.specs.Calls.{verdict-call}
 use Rattle.samples.specs.Lists.{samples-append}
@@ -21,19 +21,24 @@ stamp-low : (t : ℕ) → stampOk t ≡ true → t < 2 ^ 63
 unfolding stampOk
 stamp-low t h = lt-is t (2 ^ 63) (and-right (ltb 0 t) (ltb t (2 ^ 63)) h)
 
+stamp-pos : (t : ℕ) → stampOk t ≡ true → 0 < t
+unfolding stampOk
+stamp-pos t h = lt-is 0 t (and-left (ltb 0 t) (ltb t (2 ^ 63)) h)
+
 -- ---- the two checks
 
-pub record-zero : (l : Lent) (k c v t : ℕ) → recordCheck l k c v t ≡ 0 → (openCheck (l .image) ≡ 0) × (handleOk l k c ≡ true) × (t < 2 ^ 63)
+pub record-zero : (l : Lent) (k c v t : ℕ) → recordCheck l k c v t ≡ 0 → (openCheck (l .image) ≡ 0) × (handleOk l k c ≡ true) × (t < 2 ^ 63) × (0 < t)
 unfolding recordCheck
 record-zero l k c v t h =
     let p = first-zero (openCheck (l .image)) (unless (handleOk l k c) 11 ∷ unless (not (isInfinite v)) 12 ∷ unless (stampOk t) 13 ∷ []) h in
     let q = first-zero (unless (handleOk l k c) 11) (unless (not (isInfinite v)) 12 ∷ unless (stampOk t) 13 ∷ []) (p .1) in
     let r = first-zero (unless (not (isInfinite v)) 12) (unless (stampOk t) 13 ∷ []) (q .1) in
     let s = first-zero (unless (stampOk t) 13) [] (r .1) in
-    (p .0, unless-zero (handleOk l k c) 10 (q .0), stamp-low t (unless-zero (stampOk t) 12 (s .0)))
+    let u = unless-zero (stampOk t) 12 (s .0) in
+    (p .0, unless-zero (handleOk l k c) 10 (q .0), stamp-low t u, stamp-pos t u)
 
 pub batch-zero : (l : Lent) (x : Entry) (xs : List Entry) (t : ℕ) → batchCheck l (x ∷ xs) t ≡ 0
-    → (openCheck (l .image) ≡ 0) × (everyEntry (λ x. handleOk l (x .schema) (x .column)) (x ∷ xs) ≡ true) × (t < 2 ^ 63)
+    → (openCheck (l .image) ≡ 0) × (everyEntry (λ x. handleOk l (x .schema) (x .column)) (x ∷ xs) ≡ true) × (t < 2 ^ 63) × (0 < t)
 unfolding batchCheck
 batch-zero l x xs t h =
     let hs = everyEntry (λ x. handleOk l (x .schema) (x .column)) (x ∷ xs) in
@@ -41,41 +46,42 @@ batch-zero l x xs t h =
     let p = first-zero (openCheck (l .image)) (unless hs 11 ∷ unless (stampOk t) 13 ∷ unless is 12 ∷ []) h in
     let q = first-zero (unless hs 11) (unless (stampOk t) 13 ∷ unless is 12 ∷ []) (p .1) in
     let r = first-zero (unless (stampOk t) 13) (unless is 12 ∷ []) (q .1) in
-    (p .0, unless-zero hs 10 (q .0), stamp-low t (unless-zero (stampOk t) 12 (r .0)))
+    let u = unless-zero (stampOk t) 12 (r .0) in
+    (p .0, unless-zero hs 10 (q .0), stamp-low t u, stamp-pos t u)
 
 -- ---- the samples of a list of calls
 
 -- n is the verdict of the image's checks
 abbrev pub Accepted : ℕ → List Sample → Type 0
 Accepted n [] = Unit {0}
-Accepted n (x ∷ xs) = (x .stamp < 2 ^ 63) × (n ≡ 0) × Accepted n xs
+Accepted n (x ∷ xs) = (0 < x .stamp) × (x .stamp < 2 ^ 63) × (n ≡ 0) × Accepted n xs
 
 accepted-append : (n : ℕ) (xs ys : List Sample) → Accepted n xs → Accepted n ys → Accepted n (xs ++ ys)
 accepted-append n [] ys h g = g
-accepted-append n (x ∷ xs) ys h g = (h .0, h .1, accepted-append n xs ys (h .2) g)
+accepted-append n (x ∷ xs) ys h g = (h .0, h .1, h .2, accepted-append n xs ys (h .3) g)
 
-accepted-record : (m n : ℕ) (x : Sample) → (n ≡ 0 → (x .stamp < 2 ^ 63) × (m ≡ 0)) → Accepted m (samplesIn (ifAccepted n (took x ∷ [])))
+accepted-record : (m n : ℕ) (x : Sample) → (n ≡ 0 → (0 < x .stamp) × (x .stamp < 2 ^ 63) × (m ≡ 0)) → Accepted m (samplesIn (ifAccepted n (took x ∷ [])))
 unfolding ifAccepted samplesIn
-accepted-record m zero x h = let z = h refl in (z .0, z .1, tt)
+accepted-record m zero x h = let z = h refl in (z .0, z .1, z .2, tt)
 accepted-record m (suc n) x h = tt
 
-accepted-batch : (m n t : ℕ) (xs : List Entry) → (n ≡ 0 → (t < 2 ^ 63) × (m ≡ 0))
+accepted-batch : (m n t : ℕ) (xs : List Entry) → (n ≡ 0 → (0 < t) × (t < 2 ^ 63) × (m ≡ 0))
     → Accepted m (samplesIn (ifAccepted n (map (λ x. took (record { column = x .column; stamp = t; value = x .value })) xs)))
 unfolding ifAccepted samplesIn
 accepted-batch m zero t [] h = tt
-accepted-batch m zero t (x ∷ xs) h = let z = h refl in (z .0, z .1, accepted-batch m zero t xs h)
+accepted-batch m zero t (x ∷ xs) h = let z = h refl in (z .0, z .1, z .2, accepted-batch m zero t xs h)
 accepted-batch m (suc n) t xs h = tt
 
 accepted-call : (l : Lent) (c : Call) → Accepted (openCheck (l .image)) (samplesIn (eventsOf l c))
 unfolding eventsOf samplesIn
 accepted-call l (recordCall k c v t) =
-    accepted-record (openCheck (l .image)) (recordCheck l k c v t) (record { column = c; stamp = t; value = v }) (λ e. let z = record-zero l k c v t e in (z .2, z .0))
+    accepted-record (openCheck (l .image)) (recordCheck l k c v t) (record { column = c; stamp = t; value = v }) (λ e. let z = record-zero l k c v t e in (z .3, z .2, z .0))
 accepted-call l (batchCall [] t) = none (batchCheck l [] t)
   where
     none : (n : ℕ) → Accepted (openCheck (l .image)) (samplesIn (ifAccepted n []))
     none zero = unfold ifAccepted in tt
     none (suc n) = unfold ifAccepted in tt
-accepted-call l (batchCall (x ∷ xs) t) = accepted-batch (openCheck (l .image)) (batchCheck l (x ∷ xs) t) t (x ∷ xs) (λ e. let z = batch-zero l x xs t e in (z .2, z .0))
+accepted-call l (batchCall (x ∷ xs) t) = accepted-batch (openCheck (l .image)) (batchCheck l (x ∷ xs) t) t (x ∷ xs) (λ e. let z = batch-zero l x xs t e in (z .3, z .2, z .0))
 accepted-call l (queryCall k c j start end) = tt
 accepted-call l (autoCall k c start end) = tt
 accepted-call l consolidateCall = tt
@@ -91,10 +97,16 @@ accepted-calls (c ∷ cs) l =
 pub last-low : (n : ℕ) (xs : List Sample) → Accepted n xs → lastOf xs < 2 ^ 63
 unfolding lastOf
 last-low n [] h = lit< tt
-last-low n (x ∷ []) h = h .0
-last-low n (x ∷ y ∷ xs) h = last-low n (y ∷ xs) (h .2)
+last-low n (x ∷ []) h = h .1
+last-low n (x ∷ y ∷ xs) h = last-low n (y ∷ xs) (h .3)
 
 pub some-opens : (n : ℕ) (xs : List Sample) → Accepted n xs → 0 < firstOf xs → n ≡ 0
 unfolding firstOf
 some-opens n [] h z = absurd (omega arith)
-some-opens n (x ∷ xs) h z = h .1
+some-opens n (x ∷ xs) h z = h .2
+
+-- where there is a sample, the first stamp is not 0
+pub first-pos : (n : ℕ) (xs : List Sample) → Accepted n xs → 0 < lastOf xs → 0 < firstOf xs
+unfolding firstOf lastOf
+first-pos n [] h z = z
+first-pos n (x ∷ xs) h z = h .0

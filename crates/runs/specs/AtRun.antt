@@ -40,7 +40,7 @@ pub record RanOn (S : Setup) (v : C.Run) (ys : List Sample) (rest : List Event) 
 module _ {S : Setup} {l : Lent} {ys : List Sample} (rest : List Event) {e N : ℕ} {b : Bool} (lv : Between S l ys e N b) (f : Fits S (ys ++ samplesIn rest))
     (sch : scheduled (intervalOf S 0) (S .coarsest) (lastOf ys) b (ran ∷ rest) ≡ true) where
   here : 0 < tierCount S
-  here = omega (arith, S .many)
+  here = S .some
 
   ends-here : endsInterval (intervalOf S 0) (S .coarsest) (lastOf ys) ≡ true
   ends-here = ran-on (intervalOf S 0) (S .coarsest) (lastOf ys) b rest sch .0

@@ -26,13 +26,13 @@ use Rattle.runs.specs.AtRun.{ran-here}
 
 module _ {S : Setup} {l : Lent} (b : Base S l) where
   some-rows : 0 < rowCount (l .image)
-  some-rows = row-in b 0 (omega (arith, S .many))
+  some-rows = row-in b 0 (S .some)
 
   pub rowNo-is : (j : ℕ) → rowNo l 0 j ≡ j
   rowNo-is = rowNo-one l (b .good .shape-is) (b .one-schema) some-rows
 
   pub series-are : seriesOf (tiers l 0) ≡ S .columns
-  series-are = series-one l (b .good .shape-is) (b .one-schema) 0 some-rows ∙ unfold row in (series-fixed b 0 (omega (arith, S .many)))
+  series-are = series-one l (b .good .shape-is) (b .one-schema) 0 some-rows ∙ unfold row in (series-fixed b 0 (S .some))
 
   handle : (k c : ℕ) → handleOk l k c ≡ true → (k ≡ 0) × (c < S .columns)
   unfolding handleOk

@@ -83,7 +83,7 @@ module _ {S : Setup} {N N' : ℕ} (up : N ≤ N') (by : N' ≤ suc N) (pos : 0 <
   unfolding run runOn
   run-is l b finest others marks =
       rw (open-good (l .image) (b .good))
-      (all-pairs (rowCount (l .image) - 1) 0 l 0 (omega (arith, b .like .count-is, S .many)) (record {
+      (all-pairs (rowCount (l .image) - 1) 0 l 0 (omega (arith, b .like .count-is, S .some)) (record {
         base = b;
         done = λ j x y. let z : 0 ≡ j = omega arith in subst (λ (i : ℕ). Tier S l i N') z finest;
         due = others;

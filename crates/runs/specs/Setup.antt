@@ -40,7 +40,7 @@ pub record Setup : Type 0 where
   pub isUsed : ℕ → Bool
   -- the pattern of tier k, column c, interval number q
   pub value : ℕ → ℕ → ℕ → ℕ
-  pub many : 2 ≤ rowCount plan
+  pub some : 0 < rowCount plan
   pub series-is : (k : ℕ) → k < rowCount plan → rowAt plan k .series ≡ columns
   pub average : (k : ℕ) → suc k < rowCount plan → rowAt plan (suc k) .function ≡ 1
   pub coarsest-is : (k : ℕ) → k < rowCount plan → coarsest ≡ per k * rowAt plan k .interval

@@ -137,7 +137,7 @@ module _ {S : Setup} {l : Lent} {ys : List Sample} {e N : ℕ} {b : Bool} (lv : 
   low-tick = omega (arith, t-is)
 
   first-in : 0 < tierCount S
-  first-in = omega (arith, S .many)
+  first-in = S .some
 
   fit : Fit (S .columns) (map valueOf (y ∷ ts))
   fit =

@@ -1,46 +1,16 @@
--- The supposition by its parts, and what it says of the samples: they are steady (Ticks), and their ticks are whole coarsest intervals where the last event is
--- a run. Assumes nothing.
+-- What the supposition says of the samples: they are steady (Ticks), and their ticks are whole coarsest intervals where the last event is a run. Assumes
+-- nothing.
 use Prim.Native.Nat.{ℕ, zero, suc, _+_, _-_, _*_, _/_, _%_, _≤_, _<_}
 use native.Mathlib.Nat.{zero-mul, mul-pos, mul-div-cancel, le-of-mul-le-mul-right, lt-of-mul-lt-mul-right}
 use native.Mathlib.Omega.{arith}
 use mathlib.Core.Path.{_≡_, refl, sym, ap, _∙_, subst}
-use mathlib.Core.Bool.{Bool, true, false, _&&_}
+use mathlib.Core.Bool.{Bool, true}
 use mathlib.Core.List.{List, [], _∷_, _++_}
-use lib.Dec.{ltb, eqb}
-use Rattle.model.specs.Demand.{Sample, Event, samplesIn, firstOf, lastOf, ascending, all, count, isAt, used, gapless, ticks, isOffset, scheduled, supposed}
-use Rattle.laws.specs.Tests.{yes-le, and-left, and-right, split3, lt-is, eq-is}
+use lib.Dec.{eqb}
+use Rattle.model.specs.Demand.{Sample, firstOf, lastOf, ascending, all, count, isAt, used, gapless, ticks, isOffset}
+use Rattle.laws.specs.Tests.{yes-le, and-left, and-right, eq-is}
 use Rattle.samples.specs.Lists.{all-at, find, asc-split, last-append, last-of, le-last, first-le-last, multiple}
 use Rattle.samples.specs.Ticks.{Steady}
-
--- what is supposed of each sample
-abbrev pub fine : ℕ → List Sample → Sample → Bool
-fine d xs x = isOffset (x .value) && eqb (x .stamp % d) 0 && gapless (x .column) d (firstOf xs) (ticks d xs) xs
-
-pub record Parts (d D : ℕ) (es : List Event) : Type 0 where
-  pub first-pos : 0 < firstOf (samplesIn es)
-  pub first-whole : firstOf (samplesIn es) % D ≡ 0
-  pub ordered : ascending 0 (samplesIn es) ≡ true
-  pub all-fine : all (fine d (samplesIn es)) (samplesIn es) ≡ true
-  pub runs : scheduled d D 0 false es ≡ true
-
-pub parts : (d D : ℕ) (es : List Event) → supposed d D es ≡ true → Parts d D es
-unfolding supposed
-parts d D es h =
-    let xs = samplesIn es in
-    let a = ltb 0 (firstOf xs) in
-    let b = eqb (firstOf xs % D) 0 in
-    let c = ascending 0 xs in
-    let e = all (fine d xs) xs in
-    let f = scheduled d D 0 false es in
-    let u = split3 (a && b && c) e f h in
-    let v = split3 a b c (u .0) in
-    record {
-      first-pos = lt-is 0 (firstOf xs) (v .0);
-      first-whole = eq-is (firstOf xs % D) 0 (v .1);
-      ordered = v .2;
-      all-fine = u .1;
-      runs = u .2;
-    }
 
 -- ---- the number of ticks
 
@@ -70,22 +40,20 @@ gap-at c d t (suc n) (suc i) xs h l =
     rw e (gap-at c d (t + d) n i xs (and-right (eqb (count (isAt c t) xs) 1) (gapless c d (t + d) n xs) h) (omega arith))
 
 module _ (d a : ℕ) (xs : List Sample) (zd : 0 < d) (first : firstOf xs ≡ a * d) (pos : 0 < firstOf xs) (asc : ascending 0 xs ≡ true)
-    (al : all (fine d xs) xs ≡ true) where
-  -- what is supposed of one sample
-  fine-parts : (x : Sample) (ys zs : List Sample) → xs ≡ ys ++ x ∷ zs
-      → (isOffset (x .value) ≡ true) × (eqb (x .stamp % d) 0 ≡ true) × (gapless (x .column) d (firstOf xs) (ticks d xs) xs ≡ true)
-  fine-parts x ys zs e =
-      split3 (isOffset (x .value)) (eqb (x .stamp % d) 0) (gapless (x .column) d (firstOf xs) (ticks d xs) xs)
-      (all-at (fine d xs) ys x zs (subst (λ (l : List Sample). all (fine d xs) l ≡ true) e al))
+    (offsets : all (λ x. isOffset (x .value)) xs ≡ true) (on-ticks : all (λ x. eqb (x .stamp % d) 0) xs ≡ true)
+    (no-gap : all (λ x. gapless (x .column) d (firstOf xs) (ticks d xs) xs) xs ≡ true) where
+  -- what is supposed of all samples holds of each
+  one-of : (f : Sample → Bool) → all f xs ≡ true → (x : Sample) (ys zs : List Sample) → xs ≡ ys ++ x ∷ zs → f x ≡ true
+  one-of f h x ys zs e = all-at f ys x zs (subst (λ (l : List Sample). all f l ≡ true) e h)
 
   on-tick : (x : Sample) (ys zs : List Sample) → xs ≡ ys ++ x ∷ zs → x .stamp % d ≡ 0
-  on-tick x ys zs e = eq-is (x .stamp % d) 0 (fine-parts x ys zs e .1)
+  on-tick x ys zs e = eq-is (x .stamp % d) 0 (one-of (λ x. eqb (x .stamp % d) 0) on-ticks x ys zs e)
 
   gap' : (c i : ℕ) → used c xs ≡ true → i < ticks d xs → count (isAt c ((a + i) * d)) xs ≡ 1
   gap' c i us l =
       let f = find c xs us in
       let g : gapless c d (firstOf xs) (ticks d xs) xs ≡ true = subst (λ (k : ℕ). gapless k d (firstOf xs) (ticks d xs) xs ≡ true) (f .4)
-      (fine-parts (f .1) (f .0) (f .2) (f .3) .2) in
+      (one-of (λ x. gapless (x .column) d (firstOf xs) (ticks d xs) xs) no-gap (f .1) (f .0) (f .2) (f .3)) in
       let e : (a + i) * d ≡ firstOf xs + i * d = rw first (omega arith) in
       rw e (gap-at c d (firstOf xs) (ticks d xs) i xs g l)
 
@@ -111,7 +79,7 @@ module _ (d a : ℕ) (xs : List Sample) (zd : 0 < d) (first : firstOf xs ≡ a *
     long = zd;
     ordered = from-first xs first asc;
     gap = gap';
-    ends = λ x ys zs e. (bound x ys zs e, on-tick x ys zs e, fine-parts x ys zs e .0);
+    ends = λ x ys zs e. (bound x ys zs e, on-tick x ys zs e, one-of (λ x. isOffset (x .value)) offsets x ys zs e);
   }
     where
       from-first : (l : List Sample) → firstOf l ≡ a * d → ascending 0 l ≡ true → ascending (a * d) l ≡ true
