@@ -7,6 +7,6 @@ pub mod Begin
 pub mod Setting
 pub mod Due
 pub mod Story
-pub mod Clauses
+pub mod Tests
 pub mod Theorem
 pub mod Instance

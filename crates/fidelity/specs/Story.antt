@@ -177,57 +177,68 @@ module _ (s : Situation) (h : Supposition s) where
   unfolding afterRun created upToRun
   left-is = idle-calls (s .between) (after (creation p l) (before ++ consolidateCall ∷ [])) (h .quiet) ∙ after-run
 
-  -- ---- the query of column c at tier k
+  -- ---- the query
 
-  module _ (c k : ℕ) (hk : k < rowCount p) (hu : used c xs ≡ true) where
-    here-too : c < S .columns
-    unfolding used
-    here-too = column-in (done .store) c (lt-is 0 (count (ofColumn c) xs) hu)
+  abbrev c : ℕ
+  c = s .column
 
-    abbrev i : ℕ
-    i = rowAt p k .interval
+  abbrev k : ℕ
+  k = s .tier
 
-    abbrev m : ℕ
-    m = per p k
+  hk : k < rowCount p
+  hk = h .tier-in
 
-    -- the first number that the tier's ring holds
-    abbrev first : ℕ
-    first = firstHeld (rowSlots (rowAt p k)) (A * m) (Z * m)
+  hu : used c xs ≡ true
+  hu = rw (samples-are s) at (h .column-used)
 
-    abbrev X : ℕ → ℕ
-    X = tickValue d xs c
+  here-too : c < S .columns
+  unfolding used
+  here-too = column-in (done .store) c (lt-is 0 (count (ofColumn c) xs) hu)
 
-    points-are : handedOut (call left (queryCall 0 c k 0 (2 ^ 64 - 1)) .reply) ≡ pts (tierValue (ratio p) X k) i first (A * m + Z * m - first)
-    unfolding S setting supplied
-    points-are = rw last-run at (answer-is (done .settled) (omega (arith, last-run)) c k here-too hu hk)
+  abbrev i : ℕ
+  i = rowAt p k .interval
 
-    -- number q's value against the samples of its window
-    near : (q : ℕ) → A * m ≤ q → q < (A + Z) * m
-        → within k (ofBits binary64 (tierValue (ratio p) X k q)) (sumOf (inWindow c i (q * i)) xs) (count (inWindow c i (q * i)) xs) ≡ true
-    unfolding supplied
-    near q lo hi =
-        let L = tierLong (ratio p) k in
-        let zs = valuesOf X (q * L) L in
-        let once : (j : ℕ) → q * L ≤ j → j < q * L + L → count (isAt c (j * d)) xs ≡ 1 = λ j x y. tick-once ok supplied c k q hk hu lo hi j x (omega arith) in
-        let on : OnTicks d xs = λ x us bs e. supplied .steady-is .ends x us bs e .1 in
-        let e : i ≡ L * d = interval-ticks ok k hk in
-        let f : q * i ≡ q * L * d = ap (λ (v : ℕ). q * v) e ∙ sym (mul-assoc q L d) in
-        rw (f, e, window-count c d xs (long ok 0 here) on (q * L) L once ∙ sym (length-values X (q * L) L))
-        (within-is k (ofBits binary64 (tierValue (ratio p) X k q)) (sumOf (inWindow c (L * d) (q * L * d)) xs) (aboves zs) (belows zs) (length zs)
-        (window-sum c d xs (long ok 0 here) on (q * L) L once) (value-within (ratio p) X k q (ratios ok k hk) (tick-offset ok supplied c k q hk hu lo hi)))
+  abbrev m : ℕ
+  m = per p k
 
-    pub as-promised : T (each c (rowAt p k .interval) k xs
-        (newestWindows (rowAt p 0 .interval) (rowAt p k .interval) (rowSlots (rowAt p k)) xs)
-        (handedOut (call left (queryCall 0 c k 0 (2 ^ 64 - 1)) .reply)))
-    as-promised =
-        rw (
-          due-is d i (rowSlots (rowAt p k)) A Z D m xs (long ok k hk) (span .first-is) (span .last-is) (coarsest-is ok k hk),
-          points-are,
-          each-is c i k xs (tierValue (ratio p) X k) first (A * m + Z * m - first) (λ q x y. near q (low q x) (high q y)),
-        ) tt
-      where
-        low : (q : ℕ) → first ≤ q → A * m ≤ q
-        low q h = unfold firstHeld in (omega arith)
+  -- the first number that the tier's ring holds
+  abbrev first : ℕ
+  first = firstHeld (rowSlots (rowAt p k)) (A * m) (Z * m)
 
-        high : (q : ℕ) → q < first + (A * m + Z * m - first) → q < (A + Z) * m
-        high q h = unfold firstHeld in (omega arith)
+  abbrev X : ℕ → ℕ
+  X = tickValue d xs c
+
+  points-are : handedOut (call left (queryCall 0 c k 0 (2 ^ 64 - 1)) .reply) ≡ pts (tierValue (ratio p) X k) i first (A * m + Z * m - first)
+  unfolding S setting supplied
+  points-are = rw last-run at (answer-is (done .settled) (omega (arith, last-run)) c k here-too hu hk)
+
+  -- number q's value against the samples of its window
+  near : (q : ℕ) → A * m ≤ q → q < (A + Z) * m
+      → within k (ofBits binary64 (tierValue (ratio p) X k q)) (sumOf (inWindow c i (q * i)) xs) (count (inWindow c i (q * i)) xs) ≡ true
+  unfolding supplied
+  near q lo hi =
+      let L = tierLong (ratio p) k in
+      let zs = valuesOf X (q * L) L in
+      let once : (j : ℕ) → q * L ≤ j → j < q * L + L → count (isAt c (j * d)) xs ≡ 1 = λ j x y. tick-once ok supplied c k q hk hu lo hi j x (omega arith) in
+      let on : OnTicks d xs = λ x us bs e. supplied .steady-is .ends x us bs e .1 in
+      let e : i ≡ L * d = interval-ticks ok k hk in
+      let f : q * i ≡ q * L * d = ap (λ (v : ℕ). q * v) e ∙ sym (mul-assoc q L d) in
+      rw (f, e, window-count c d xs (long ok 0 here) on (q * L) L once ∙ sym (length-values X (q * L) L))
+      (within-is k (ofBits binary64 (tierValue (ratio p) X k q)) (sumOf (inWindow c (L * d) (q * L * d)) xs) (aboves zs) (belows zs) (length zs)
+      (window-sum c d xs (long ok 0 here) on (q * L) L once) (value-within (ratio p) X k q (ratios ok k hk) (tick-offset ok supplied c k q hk hu lo hi)))
+
+  pub as-promised : T (each c (rowAt p k .interval) k xs
+      (newestWindows (rowAt p 0 .interval) (rowAt p k .interval) (rowSlots (rowAt p k)) xs)
+      (handedOut (call left (queryCall 0 c k 0 (2 ^ 64 - 1)) .reply)))
+  as-promised =
+      rw (
+        due-is d i (rowSlots (rowAt p k)) A Z D m xs (long ok k hk) (span .first-is) (span .last-is) (coarsest-is ok k hk),
+        points-are,
+        each-is c i k xs (tierValue (ratio p) X k) first (A * m + Z * m - first) (λ q x y. near q (low q x) (high q y)),
+      ) tt
+    where
+      low : (q : ℕ) → first ≤ q → A * m ≤ q
+      low q h = unfold firstHeld in (omega arith)
+
+      high : (q : ℕ) → q < first + (A * m + Z * m - first) → q < (A + Z) * m
+      high q h = unfold firstHeld in (omega arith)

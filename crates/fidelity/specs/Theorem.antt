@@ -3,11 +3,11 @@
 use Rattle.model.specs.Demand.{finest, answers, tierInterval, due, ThirdDemand}
 use Rattle.fidelity.specs.Stronger.{StrongerDemand}
 use Rattle.fidelity.specs.Story.{samples-are, left-is, as-promised}
-use Rattle.fidelity.specs.Clauses.{clauses}
+use Rattle.fidelity.specs.Tests.{clauses}
 
 pub stronger : StrongerDemand
 unfolding StrongerDemand finest answers tierInterval due
-stronger s h = rw (samples-are s, left-is s h) (as-promised s h (s .column) (s .tier) (h .tier-in) (rw (samples-are s) at (h .column-used)))
+stronger s h = rw (samples-are s, left-is s h) (as-promised s h)
 
 pub proof : ThirdDemand
 unfolding ThirdDemand StrongerDemand
