@@ -1,2 +1,2 @@
 mod Handed
-mod Laws
+pub mod Laws

@@ -1,5 +1,5 @@
--- Every list of calls whose fields fit their widths, and so every list that can be made, stands in some bytes: reading `encoded cs` gives cs again. So what is
--- said in Left of bytes is said of all these lists. Assumes nothing.
+-- Every list of calls whose fields fit their widths, and so every list that can be made, stands in some bytes: reading `encoded cs` gives cs again. So what
+-- `tie::demand` promises of calls in bytes it promises of all these lists. Assumes nothing.
 use Prim.Native.Nat.{ℕ, zero, suc, _+_, _*_, _/_, _^_, _≤_, _<_}
 use native.Mathlib.Omega.{arith}
 use mathlib.Core.Path.{_≡_, refl, sym, ap, _∙_}

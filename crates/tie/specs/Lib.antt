@@ -1,2 +1,3 @@
 pub mod Encode
-pub mod Left
+pub mod Stored
+pub mod Kept

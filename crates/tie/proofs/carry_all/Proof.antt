@@ -1,0 +1,30 @@
+-- `tie::carry_all` meets its contract: what each call leaves is lent to the next. Assumes nothing.
+use mathlib.Core.Path.{ap}
+use Rattle.model.specs.Store.{Done}
+use Rattle.lent.specs.Parts.{lentOf}
+use Rattle.calls.specs.Encoded.{callsIn}
+use Rattle.tie.proofs.Laws.{carried}
+use borrow.Author.Needs.{needs}
+use Rattle.tie.proofs.carry_all.Statement.{statement}
+use Rattle.tie.proofs.carry_all.Tie as tie
+
+carry-out-requires : tie.Need-carry-out-requires
+carry-out-requires c κs = search needs
+
+consolidate-requires : tie.Need-consolidate-requires
+consolidate-requires c κs = search needs
+
+carry-out-requires-2 : tie.Need-carry-out-requires-2
+carry-out-requires-2 c κs = search needs
+
+same-length : tie.Need-same-length
+same-length c = search needs
+
+returns : tie.Need-returns
+returns c =
+    carried (lentOf (c .before .before .before .before .before .before .before .before .before .before .before .before .before .before .before .before .args .image .now) (c .before .before .before .before .before .before .before .before .before .before .before .before .before .before .before .before .args .flags)) (callsIn (c .before .before .before .before .before .before .before .before .before .before .before .before .before .before .before .before .args .before .now)) (callsIn (c .before .before .before .before .before .before .before .before .before .before .before .before .before .before .before .before .args .between .now)) (c .before .before .before .before .before .before .before .before .before .before .before .carry-out .ensures) (ap (λ (d : Done). d .lent) (c .before .before .before .before .before .before .before .consolidate .ensures)) (c .before .before .carry-out2 .ensures)
+
+pub carry-all-spec : {M : Type 1} → statement M
+carry-all-spec =
+    tie.close
+    (tie.spec carry-out-requires consolidate-requires carry-out-requires-2 same-length returns)

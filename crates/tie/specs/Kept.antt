@@ -1,0 +1,53 @@
+-- What `tie::demand` promises: the third demand about what the code leaves and hands out. The function creates a store, carries out the calls before the run, the
+-- run and the calls between, queries over all time, and steps the reader to its end, each by its proved core; so the checker holds their contracts together.
+-- Assumes nothing.
+use Prim.Native.Nat.{ℕ, zero, suc}
+use mathlib.Core.Path.{_≡_, refl, sym, subst}
+use mathlib.Core.Bool.{true, false≢true}
+use mathlib.Core.List.{List, [], _∷_}
+use lib.Dec.{T, eqb}
+use lib.ListN.{take}
+use lib.Ieee.{binary64, ofBits}
+use lib.Ieee.Bits.{is-true}
+use Rattle.model.specs.declared.Flags.{Flags}
+use Rattle.model.specs.declared.Point.{Point}
+use Rattle.model.specs.Lent.{Lent}
+use Rattle.model.specs.Store.{after}
+use Rattle.model.specs.Demand.{Sample, count, inWindow, sumOf, within, each, Situation, afterRun, samples, answers, tierInterval, due}
+use Rattle.laws.specs.Tests.{split3}
+use Rattle.fidelity.specs.Stronger.{Supposition, StrongerDemand}
+use Rattle.fidelity.specs.Theorem.{stronger}
+use Rattle.calls.specs.Encoded.{callsIn}
+
+-- the situation that the function is called in; the calls stand in bytes
+abbrev pub situation : List ℕ → List ℕ → Flags → List ℕ → List ℕ → ℕ → ℕ → Situation
+situation plan buf flags before between c k = record { plan = plan; buf = buf; flags = flags .wrapped; before = callsIn before; between = callsIn between; column = c; tier = k }
+
+-- l is left, and these points are handed out, where there is room for so many
+pub record Kept (s : Situation) (l : Lent) (room : ℕ) (ps : List Point) : Type 0 where
+  -- for every situation: image and flags are what the calls leave, the points those of the query, as many as there is room for
+  pub left : l ≡ after (afterRun s) (s .between)
+  pub handed : ps ≡ take room (answers s)
+  -- under the supposition: one point for each window that is due, from the oldest on as many as there is room for
+  pub promised : Supposition s → T (each (s .column) (tierInterval s) (s .tier) (samples s) (take room (due s)) ps)
+
+each-take : (c i k : ℕ) (xs : List Sample) (n : ℕ) (ws : List ℕ) (ps : List Point) → each c i k xs ws ps ≡ true → each c i k xs (take n ws) (take n ps) ≡ true
+unfolding each
+each-take c i k xs zero ws ps h = refl
+each-take c i k xs (suc n) [] [] h = refl
+each-take c i k xs (suc n) [] (p ∷ ps) h = absurd (false≢true h)
+each-take c i k xs (suc n) (w ∷ ws) [] h = absurd (false≢true h)
+each-take c i k xs (suc n) (w ∷ ws) (p ∷ ps) h =
+    let u = split3 (eqb (p .stamp) w) (within k (ofBits binary64 (p .value)) (sumOf (inWindow c i w) xs) (count (inWindow c i w) xs)) (each c i k xs ws ps) h in
+    rw (u .0, u .1) (each-take c i k xs n ws ps (u .2))
+
+-- what is left and handed out, and the theorem
+pub kept : (s : Situation) (l : Lent) (room : ℕ) (ps : List Point) → l ≡ after (afterRun s) (s .between) → ps ≡ take room (answers s) → Kept s l room ps
+unfolding StrongerDemand
+kept s l room ps left handed = record { left = left; handed = handed; promised = promised }
+  where
+    all-due : Supposition s → each (s .column) (tierInterval s) (s .tier) (samples s) (due s) (answers s) ≡ true
+    all-due h = is-true (each (s .column) (tierInterval s) (s .tier) (samples s) (due s) (answers s)) (stronger s h)
+
+    promised : Supposition s → T (each (s .column) (tierInterval s) (s .tier) (samples s) (take room (due s)) ps)
+    promised h = rw (handed, each-take (s .column) (tierInterval s) (s .tier) (samples s) room (due s) (answers s) (all-due h)) tt
