@@ -43,7 +43,7 @@ module _ (q : Job) (w : ℕ) where
 -- ---- the windows
 
 module _ (q : Job) (m : ℕ) where
-  refused-windows : (ws : List ℕ) (f : Filled) → f .refusal ≢ 0 → fill q f ws m ≡ f
+  pub refused-windows : (ws : List ℕ) (f : Filled) → f .refusal ≢ 0 → fill q f ws m ≡ f
   unfolding fill
   refused-windows [] f h = refl
   refused-windows (w ∷ ws) f h = ap (λ (g : Filled). fill q g ws m) (refused-rest q w f 0 m h) ∙ refused-windows ws f h

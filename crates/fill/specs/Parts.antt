@@ -4,10 +4,13 @@ use mathlib.Core.Path.{_≡_}
 use mathlib.Core.List.{List}
 use lib.ListN.{length}
 use Rattle.model.specs.Bytes.{part, splice}
-use Rattle.model.specs.Window.{Job}
+use Rattle.model.specs.declared.Place.{Place}
+use Rattle.model.specs.Ring.{walk, order}
+use Rattle.model.specs.Window.{Job, windowOf, windowAnswer}
 use Rattle.model.specs.Consolidate.{Filled}
 use Rattle.rings.specs.Sound.{Sound}
-use Rattle.window.specs.Parts.{Readable, jobIn}
+use Rattle.window.specs.declared.Reading.{Reading}
+use Rattle.window.specs.Parts.{Readable, jobIn, along}
 use Rattle.answers.specs.declared.Filling.{Filling}
 use Rattle.answers.specs.Parts.{filledOf}
 use Rattle.fill.specs.declared.Pair.{Pair}
@@ -36,6 +39,19 @@ pub record Lies (s : List ℕ) (p : Pair) : Type 0 where
   pub some-interval : 0 < p .dest .interval
   pub end-low : p .reading .end < 2 ^ 64
   pub same-series : p .dest .series ≡ p .reading .series
+
+-- slots of the source s that have all of a window
+pub record Covers (s : List ℕ) (q : Reading) (window : ℕ) (place : Place) : Type 0 where
+  pub slot-in : place .slot < q .slots
+  pub few-left : place .left ≤ q .slots
+  pub starts : windowOf (q .long) window ≡ window
+  pub same : (c : ℕ) → windowAnswer (jobIn s q) window c ≡ along (jobIn s q) window c (walk (q .slots) (place .slot) (place .left))
+
+-- the whole reading order
+pub record Whole (s : List ℕ) (q : Reading) (place : Place) : Type 0 where
+  pub slot-in : place .slot < q .slots
+  pub few-left : place .left ≤ q .slots
+  pub order-is : walk (q .slots) (place .slot) (place .left) ≡ order (jobIn s q .source)
 
 -- t is s but for the destination's bytes, and the pair lies in it as well
 pub record Keeps (s t : List ℕ) (p : Pair) : Type 0 where

@@ -5,7 +5,7 @@ ghost use Prim.Native.Nat.{_+_, _*_, _<_, _≤_, _^_};
 ghost use Rattle.model.specs.declared.Outcome.the-variants.{Accepted};
 ghost use Rattle.model.specs.Window.{windowAnswer};
 ghost use Rattle.model.specs.Consolidate.{writeAnswer, fillWindow, fill, windows};
-ghost use Rattle.fill.specs.Parts.{Lies, Keeps, jobOf, filledIn};
+ghost use Rattle.fill.specs.Parts.{Lies, Covers, Whole, Keeps, sourceIn, jobOf, filledIn};
 
 // A pair: where the source stands in the image and what is read of it, and the destination.
 pub struct Pair {
@@ -15,15 +15,16 @@ pub struct Pair {
     pub dest: lent::Slab,
 }
 
-// One column of a window.
+// One column of a window, read from these slots.
 fn fill_column(
     image: &mut [u8],
     p: Pair,
     filling: answers::Filling,
     window: u64,
     column: usize,
+    place: model::Place,
 ) -> answers::Filling
-    requires { ⌜ Lies (now image) p ⌝ }
+    requires { ⌜ Lies (now image) p × Covers (sourceIn (now image) p) (p .reading) window place ⌝ }
     requires { ⌜ (column < p .reading .series) × (filling .writes < 2 ^ 63) ⌝ }
     ensures { λ r. ⌜ filledIn (now (image .exit)) p r ≡ writeAnswer (windowAnswer (jobOf (now (image .entry)) p) window column) (filledIn (now (image .entry)) p filling) window column ⌝ }
     ensures { λ r. ⌜ Keeps (now (image .entry)) (now (image .exit)) p × (r .writes ≤ filling .writes + 1) ⌝ }
@@ -31,21 +32,22 @@ fn fill_column(
     let q = p.reading;
     let from = p.from;
     let to = p.to;
-    let x = window::answer(&image[from..to], q, window, column);
+    let x = window::answer(&image[from..to], q, window, column, place);
     let d = p.dest;
     let start = d.from;
     let end = d.to;
     answers::write_answer(&mut image[start..end], d, x, filling, window, column)
 }
 
-// Every column of a window.
-fn fill_window(
+// Every column of a window, read from slots that have all of it.
+pub fn fill_window(
     image: &mut [u8],
     p: Pair,
     filling: answers::Filling,
     window: u64,
+    place: model::Place,
 ) -> answers::Filling
-    requires { ⌜ Lies (now image) p ⌝ }
+    requires { ⌜ Lies (now image) p × Covers (sourceIn (now image) p) (p .reading) window place ⌝ }
     requires { ⌜ (filling .outcome ≡ Accepted) × (filling .writes + p .reading .series ≤ 2 ^ 63) ⌝ }
     ensures { λ r. ⌜ filledIn (now (image .exit)) p r ≡ fillWindow (jobOf (now (image .entry)) p) (filledIn (now (image .entry)) p filling) window 0 (p .reading .series) ⌝ }
     ensures { λ r. ⌜ Keeps (now (image .entry)) (now (image .exit)) p × (r .writes ≤ filling .writes + p .reading .series) ⌝ }
@@ -55,7 +57,7 @@ fn fill_window(
     let mut done = filling;
     let mut column = 0;
     while column < m {
-        done = fill_column(image, p, done, window, column);
+        done = fill_column(image, p, done, window, column, place);
         let outcome = done.outcome;
         let model::Outcome::Accepted = outcome else {
             return done;
@@ -65,9 +67,14 @@ fn fill_window(
     done
 }
 
-// Every window: the next one is searched from behind the one before.
-pub fn fill_windows(image: &mut [u8], p: Pair, filling: answers::Filling) -> answers::Filling
-    requires { ⌜ Lies (now image) p ⌝ }
+// Every window: the next one is searched from behind the one before, and read from the whole reading order.
+pub fn fill_windows(
+    image: &mut [u8],
+    p: Pair,
+    filling: answers::Filling,
+    place: model::Place,
+) -> answers::Filling
+    requires { ⌜ Lies (now image) p × Whole (sourceIn (now image) p) (p .reading) place ⌝ }
     requires { ⌜ (filling .outcome ≡ Accepted) × (filling .writes + p .reading .series * p .reading .slots ≤ 2 ^ 63) ⌝ }
     ensures { λ r. ⌜ filledIn (now (image .exit)) p r ≡ fill (jobOf (now (image .entry)) p) (filledIn (now (image .entry)) p filling) (windows (jobOf (now (image .entry)) p)) (p .reading .series) ⌝ }
     ensures { λ r. ⌜ Keeps (now (image .entry)) (now (image .exit)) p × (r .writes ≤ filling .writes + p .reading .series * p .reading .slots) ⌝ }
@@ -83,7 +90,7 @@ pub fn fill_windows(image: &mut [u8], p: Pair, filling: answers::Filling) -> ans
         let model::End::At(w) = next else {
             return done;
         };
-        done = fill_window(image, p, done, w);
+        done = fill_window(image, p, done, w, place);
         let outcome = done.outcome;
         let model::Outcome::Accepted = outcome else {
             return done;

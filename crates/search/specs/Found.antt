@@ -1,5 +1,5 @@
 -- The search by one stamp more; and what is found: a window that is found starts at the bound or above it, and below the range's end. So windows ascend, and
--- none is found twice. Assumes nothing.
+-- none is found twice. And it is the start of a window. Assumes nothing.
 use Prim.Native.Nat.{ℕ, _≤_, _<_}
 use native.Mathlib.Omega.{arith}
 use native.Mathlib.Nat.{div-mul-le-self}
@@ -13,48 +13,51 @@ use Rattle.model.specs.Ring.{stamp, order}
 use Rattle.model.specs.Window.{Job, windowOf}
 use Rattle.model.specs.Consolidate.{lower, lowerIf, isNext, leastFrom, nextWindow}
 use Rattle.laws.specs.Tests.{le-is, lt-is}
+use Rattle.window.proofs.Laws.{window-again}
 
 -- the least start so far, with the stamp t
 unfoldable pub considered : ℕ → ℕ → ℕ → ℕ → End → ℕ → End
 considered start end d bound least t = lowerIf (leb start t && ltb t end && leb bound (windowOf d t)) least (windowOf d t)
 
--- a start that was found lies from the bound up to the end
-abbrev Within : ℕ → ℕ → End → Type 0
-Within bound end Missing = Unit {0}
-Within bound end (At w) = (bound ≤ w) × (w < end)
+-- a start that was found lies from the bound up to the end, and starts a window of length d
+abbrev Within : ℕ → ℕ → ℕ → End → Type 0
+Within d bound end Missing = Unit {0}
+Within d bound end (At w) = (bound ≤ w) × (w < end) × (windowOf d w ≡ w)
 
-lower-within : (bound end : ℕ) (e : End) (w : ℕ) → Within bound end e → bound ≤ w → w < end → Within bound end (lower e w)
+lower-within : (d bound end : ℕ) (e : End) (w : ℕ) → Within d bound end e → Within d bound end (At w) → Within d bound end (lower e w)
 unfolding lower
-lower-within bound end Missing w h a b = (a, b)
-lower-within bound end (At v) w h a b = go (ltb w v)
+lower-within d bound end Missing w h a = a
+lower-within d bound end (At v) w h a = go (ltb w v)
   where
-    go : (t : Bool) → Within bound end (At (cond t w v))
-    go true = (a, b)
+    go : (t : Bool) → Within d bound end (At (cond t w v))
+    go true = a
     go false = h
 
 window-low : (d t : ℕ) → windowOf d t ≤ t
 unfolding windowOf
 window-low d t = div-mul-le-self t d
 
-one-within : (q : Job) (bound : ℕ) (e : End) (t : ℕ) → Within bound (q .end) e → Within bound (q .end) (lowerIf (isNext q bound t) e (windowOf (q .long) t))
+one-within : (q : Job) → 0 < q .long → (bound : ℕ) (e : End) (t : ℕ) → Within (q .long) bound (q .end) e
+    → Within (q .long) bound (q .end) (lowerIf (isNext q bound t) e (windowOf (q .long) t))
 unfolding isNext lowerIf
-one-within q bound e t h = go (leb (q .start) t) (ltb t (q .end)) refl (leb bound (windowOf (q .long) t)) refl
+one-within q z bound e t h = go (leb (q .start) t) (ltb t (q .end)) refl (leb bound (windowOf (q .long) t)) refl
   where
-    go : (a b : Bool) → ltb t (q .end) ≡ b → (c : Bool) → leb bound (windowOf (q .long) t) ≡ c → Within bound (q .end) (lowerIf (a && b && c) e (windowOf (q .long) t))
+    go : (a b : Bool) → ltb t (q .end) ≡ b → (c : Bool) → leb bound (windowOf (q .long) t) ≡ c → Within (q .long) bound (q .end) (lowerIf (a && b && c) e (windowOf (q .long) t))
     go false b p c r = h
     go true false p c r = h
     go true true p false r = h
     go true true p true r =
-        lower-within bound (q .end) e (windowOf (q .long) t) h (le-is bound (windowOf (q .long) t) r)
-        (omega (arith, lt-is t (q .end) p, window-low (q .long) t))
+        lower-within (q .long) bound (q .end) e (windowOf (q .long) t) h
+        (le-is bound (windowOf (q .long) t) r, omega (arith, lt-is t (q .end) p, window-low (q .long) t), window-again (q .long) z t)
 
-least-within : (q : Job) (bound : ℕ) (is : List ℕ) (e : End) → Within bound (q .end) e → Within bound (q .end) (leastFrom q bound e is)
+least-within : (q : Job) → 0 < q .long → (bound : ℕ) (is : List ℕ) (e : End) → Within (q .long) bound (q .end) e
+    → Within (q .long) bound (q .end) (leastFrom q bound e is)
 unfolding leastFrom
-least-within q bound [] e h = h
-least-within q bound (i ∷ is) e h =
+least-within q z bound [] e h = h
+least-within q z bound (i ∷ is) e h =
     let t = stamp (q .source .slab) i in
-    least-within q bound is (lowerIf (isNext q bound t) e (windowOf (q .long) t)) (one-within q bound e t h)
+    least-within q z bound is (lowerIf (isNext q bound t) e (windowOf (q .long) t)) (one-within q z bound e t h)
 
-pub found : (q : Job) (bound : ℕ) {w : ℕ} → nextWindow q bound ≡ At w → (bound ≤ w) × (w < q .end)
+pub found : (q : Job) → 0 < q .long → (bound : ℕ) {w : ℕ} → nextWindow q bound ≡ At w → (bound ≤ w) × (w < q .end) × (windowOf (q .long) w ≡ w)
 unfolding nextWindow
-found q bound {w} e = subst (Within bound (q .end)) e (least-within q bound (order (q .source)) Missing tt)
+found q z bound {w} e = subst (Within (q .long) bound (q .end)) e (least-within q z bound (order (q .source)) Missing tt)

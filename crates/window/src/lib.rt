@@ -1,11 +1,12 @@
-// A window's answer for one column of a source: two passes over the slots in ring order, one for the counts and one for the fold of the finite values; then
-// no value, a number, or NaN because nothing finite remained. `gather_values` alone says what the passes find, so that another way to find it changes nothing else.
+// A window's answer for one column of a source: two passes over slots in ring order, one for the counts and one for the fold of the finite values; then no
+// value, a number, or NaN because nothing finite remained. The caller says which slots: the whole reading order, or a run of it that has all of the window.
+// `gather_values` alone says what the passes find, so that another way to find it changes nothing else.
 ghost use mathlib.Core.Path.{_≡_};
 ghost use Prim.Native.Nat.{_+_, _<_, _≤_};
 ghost use mathlib.Core.List.{[]};
-ghost use Rattle.model.specs.Ring.{stamp, cell, walk, order};
-ghost use Rattle.model.specs.Window.{windowOf, heldValue, held, heldIn, keepFinite, fold, foldStart, finites, windowAnswer};
-ghost use Rattle.window.specs.Parts.{Readable, jobIn, Counted, Counts, gather, Fine};
+ghost use Rattle.model.specs.Ring.{stamp, cell, walk};
+ghost use Rattle.model.specs.Window.{windowOf, heldValue, held, heldIn, keepFinite, fold, foldStart, finites};
+ghost use Rattle.window.specs.Parts.{Readable, Asked, jobIn, Counted, Counts, gather, along, Fine};
 
 // A source that is read: its sizes and its flag, what is made of it, the destination's interval, and the range.
 pub struct Reading {
@@ -58,7 +59,7 @@ fn held_value(v: u64) -> model::Held
 // What a slot holds for a window.
 fn held_at(slab: &[u8], q: Reading, window: u64, column: usize, slot: usize) -> model::Held
     requires { ⌜ Readable (now slab) q ⌝ }
-    requires { ⌜ (slot < q .slots) × (column < q .series) ⌝ }
+    requires { ⌜ (slot < q .slots) × (column < q .series) × (windowOf (q .long) window ≡ window) ⌝ }
     ensures { λ r. ⌜ r ≡ held (jobIn (now (slab .entry)) q) window (stamp (now (slab .entry)) slot) (cell (now (slab .entry)) column slot) ⌝ }
 {
     let t = ring::stamp_of(slab, q.slots, q.series, slot);
@@ -68,8 +69,10 @@ fn held_at(slab: &[u8], q: Reading, window: u64, column: usize, slot: usize) -> 
     if t >= q.end {
         return model::Held::Outside;
     }
-    let w = window_of(q.long, t);
-    if w != window {
+    if t < window {
+        return model::Held::Outside;
+    }
+    if t - window >= q.long {
         return model::Held::Outside;
     }
     let v = ring::cell_of(slab, q.slots, q.series, column, slot);
@@ -97,7 +100,7 @@ fn counted(k: Count, h: model::Held) -> Count
 // The first pass: how many values the window has, and how many of them are finite.
 fn count_values(slab: &[u8], q: Reading, window: u64, column: usize, place: model::Place) -> Count
     requires { ⌜ Readable (now slab) q ⌝ }
-    requires { ⌜ (place .slot < q .slots) × (place .left ≤ q .slots) × (column < q .series) ⌝ }
+    requires { ⌜ Asked q window column place ⌝ }
     ensures { λ r. ⌜ Counts (heldIn (jobIn (now (slab .entry)) q) window column (walk (q .slots) (place .slot) (place .left))) (r .seen) (r .finite) ⌝ }
     ensures { λ r. ⌜ r .finite ≤ q .slots ⌝ }
 {
@@ -127,7 +130,7 @@ fn entered(f: model::ConsolidationFn, a: f64, h: model::Held) -> f64
 // The second pass: the finite values, left to right.
 fn folded(slab: &[u8], q: Reading, window: u64, column: usize, place: model::Place) -> f64
     requires { ⌜ Readable (now slab) q ⌝ }
-    requires { ⌜ (place .slot < q .slots) × (place .left ≤ q .slots) × (column < q .series) ⌝ }
+    requires { ⌜ Asked q window column place ⌝ }
     ensures { λ r. ⌜ r ≡ fold (q .function) (foldStart (q .function)) (finites (heldIn (jobIn (now (slab .entry)) q) window column (walk (q .slots) (place .slot) (place .left)))) ⌝ }
 {
     let f = q.function;
@@ -144,13 +147,18 @@ fn folded(slab: &[u8], q: Reading, window: u64, column: usize, place: model::Pla
 }
 
 // What a window has in a column.
-fn gather_values(slab: &[u8], q: Reading, window: u64, column: usize) -> Gathered
+fn gather_values(
+    slab: &[u8],
+    q: Reading,
+    window: u64,
+    column: usize,
+    place: model::Place,
+) -> Gathered
     requires { ⌜ Readable (now slab) q ⌝ }
-    requires { ⌜ column < q .series ⌝ }
-    ensures { λ r. ⌜ r ≡ gather (q .function) (heldIn (jobIn (now (slab .entry)) q) window column (order (jobIn (now (slab .entry)) q .source))) ⌝ }
+    requires { ⌜ Asked q window column place ⌝ }
+    ensures { λ r. ⌜ r ≡ gather (q .function) (heldIn (jobIn (now (slab .entry)) q) window column (walk (q .slots) (place .slot) (place .left))) ⌝ }
     ensures { λ r. ⌜ r .finite < 4294967296 ⌝ }
 {
-    let place = ring::first_place(slab, q.slots, q.series, q.wrapped);
     let k = count_values(slab, q, window, column, place);
     let a = folded(slab, q, window, column, place);
     Gathered {
@@ -160,13 +168,19 @@ fn gather_values(slab: &[u8], q: Reading, window: u64, column: usize) -> Gathere
     }
 }
 
-// The window's answer for a column. A number is never NaN.
-pub fn answer(slab: &[u8], q: Reading, window: u64, column: usize) -> model::WindowAnswer
+// The window's answer for a column, from these slots. A number is never NaN.
+pub fn answer(
+    slab: &[u8],
+    q: Reading,
+    window: u64,
+    column: usize,
+    place: model::Place,
+) -> model::WindowAnswer
     requires { ⌜ Readable (now slab) q ⌝ }
-    requires { ⌜ column < q .series ⌝ }
-    ensures { λ r. ⌜ (r ≡ windowAnswer (jobIn (now (slab .entry)) q) window column) × Fine r ⌝ }
+    requires { ⌜ Asked q window column place ⌝ }
+    ensures { λ r. ⌜ (r ≡ along (jobIn (now (slab .entry)) q) window column (walk (q .slots) (place .slot) (place .left))) × Fine r ⌝ }
 {
-    let g = gather_values(slab, q, window, column);
+    let g = gather_values(slab, q, window, column, place);
     let seen = g.seen;
     if seen == 0 {
         return model::WindowAnswer::Empty;

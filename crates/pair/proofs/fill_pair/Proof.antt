@@ -19,8 +19,8 @@ add-flag c = let a = c .before .before .before .before .before .before .args in 
 flag-requires : tie.Need-flag-requires
 flag-requires c κs = let a = c .before .before .before .before .before .before .args in omega (arith, row-low (a .image .now) (a .row) (c .before .before .before .before .before .before .pre .0))
 
-fill-windows-requires : tie.Need-fill-windows-requires
-fill-windows-requires c κs = (c .before .before .before .before .pair-at .ensures .lies, (refl, omega (arith, c .before .before .before .before .pair-at .ensures .few)))
+fill-pair-requires : tie.Need-fill-pair-requires
+fill-pair-requires c κs = (c .before .before .before .before .pair-at .ensures .lies, (refl, omega (arith, c .before .before .before .before .pair-at .ensures .few)))
 
 add-with-flag : tie.Need-add-with-flag
 add-with-flag c = let a = c .before .before .before .before .before .before .before .before .before .before .before .args in omega (arith, row-low (a .image .now) (a .row) (c .before .before .before .before .before .before .before .before .before .before .before .pre .0))
@@ -29,16 +29,16 @@ with-flag-requires : tie.Need-with-flag-requires
 with-flag-requires c κs = let a = c .before .before .before .before .before .before .before .before .before .before .before .args in omega (arith, row-low (a .image .now) (a .row) (c .before .before .before .before .before .before .before .before .before .before .before .pre .0))
 
 move-mark-requires : tie.Need-move-mark-requires
-move-mark-requires c κs = let a = c .before .before .before .before .before .before .before .before .before .before .before .before .before .args in omega (arith, row-inside (a .image .now) (a .row) (c .before .before .before .before .before .before .before .before .before .before .before .before .before .pre .0) (a .row) (omega arith), c .before .before .before .before .fill-windows .ensures .1 .0 .long)
+move-mark-requires c κs = let a = c .before .before .before .before .before .before .before .before .before .before .before .before .before .args in omega (arith, row-inside (a .image .now) (a .row) (c .before .before .before .before .before .before .before .before .before .before .before .before .before .pre .0) (a .row) (omega arith), c .before .before .before .before .fill-pair .ensures .1 .0 .long)
 
 add-t23 : tie.Need-add-t23
-add-t23 c = omega (arith, c .before .before .before .before .before .before .before .before .before .before .before .before .before .before .before .before .before .before .pre .1 .1, c .before .before .before .before .before .before .before .before .before .fill-windows .ensures .1 .1, c .before .before .before .before .before .before .before .before .before .before .before .before .before .before .pair-at .ensures .few)
+add-t23 c = omega (arith, c .before .before .before .before .before .before .before .before .before .before .before .before .before .before .before .before .before .before .pre .1 .1, c .before .before .before .before .before .before .before .before .before .fill-pair .ensures .1 .1, c .before .before .before .before .before .before .before .before .before .before .before .before .before .before .pair-at .ensures .few)
 
 same-length : tie.Need-same-length
 same-length c = search needs
 
 returns : tie.Need-returns
-returns c = let a = c .before .before .before .before .before .before .before .before .before .before .before .before .before .before .before .before .before .before .args in let w = c .before .before .before .before .before .before .before .before .before .fill-windows in (pair-done (a .image .now) (w .last .0) (a .u) (a .row) (a .f) (c .before .before .before .before .before .before .before .before .before .before .before .before .before .before .pair-at .result) (c .before .before .before .before .before .before .before .before .before .before .before .before .before .before .pair-at .ensures) (w .ensures .1 .0) (w .result) (c .before .before .before .before .before .before .before .before .before .before .before .before .before2 .result) (c .before .before .before .before .before .before .before .before .before .before .before .flag .ensures) (w .ensures .0) (c .before .before .before .before .before .before .before .before .before .before .before .before .before2 .ensures) (c .before .before .before .before .move-mark .ensures) (c .before .before .before .before .before .before .with-flag .ensures), omega (arith, w .ensures .1 .1, c .before .before .before .before .before .before .before .before .before .before .before .before .before .before .pair-at .ensures .few))
+returns c = let a = c .before .before .before .before .before .before .before .before .before .before .before .before .before .before .before .before .before .before .args in let w = c .before .before .before .before .before .before .before .before .before .fill-pair in (pair-done (a .image .now) (w .last .0) (a .u) (a .row) (a .f) (c .before .before .before .before .before .before .before .before .before .before .before .before .before .before .pair-at .result) (c .before .before .before .before .before .before .before .before .before .before .before .before .before .before .pair-at .ensures) (w .ensures .1 .0) (w .result) (c .before .before .before .before .before .before .before .before .before .before .before .before .before2 .result) (c .before .before .before .before .before .before .before .before .before .before .before .flag .ensures) (w .ensures .0) (c .before .before .before .before .before .before .before .before .before .before .before .before .before2 .ensures) (c .before .before .before .before .move-mark .ensures) (c .before .before .before .before .before .before .with-flag .ensures), omega (arith, w .ensures .1 .1, c .before .before .before .before .before .before .before .before .before .before .before .before .before .before .pair-at .ensures .few))
 
 pub fill-pair-spec : {M : Type 1} → statement M
 fill-pair-spec =
@@ -48,7 +48,7 @@ fill-pair-spec =
     before-requires
     add-flag
     flag-requires
-    fill-windows-requires
+    fill-pair-requires
     add-with-flag
     with-flag-requires
     move-mark-requires

@@ -21,7 +21,7 @@ loop-holds : tie.Need-loop-holds Inv-loop μ-loop
 loop-holds c = (search needs, omega arith, omega arith, search needs, (omega arith, omega arith))
 
 held-at-requires : tie.Need-held-at-requires Inv-loop μ-loop
-held-at-requires c κs = (c .before .before .before .pre .0, search needs)
+held-at-requires c κs = (c .before .before .before .pre .0, (search needs, c .before .before .before .pre .1 .column-in, c .before .before .before .pre .1 .starts))
 
 counted-requires : tie.Need-counted-requires Inv-loop μ-loop
 counted-requires c κs = search needs

@@ -23,7 +23,7 @@ loop-holds : tie.Need-loop-holds Inv-loop μ-loop
 loop-holds c = (search needs, cc)
 
 held-at-requires : tie.Need-held-at-requires Inv-loop μ-loop
-held-at-requires c κs = (c .before .before .before .before .pre .0, search needs)
+held-at-requires c κs = (c .before .before .before .before .pre .0, (search needs, c .before .before .before .before .pre .1 .column-in, c .before .before .before .before .pre .1 .starts))
 
 entered-requires : tie.Need-entered-requires Inv-loop μ-loop
 entered-requires c κs = search needs

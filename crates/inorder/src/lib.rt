@@ -1,0 +1,69 @@
+// A pair's writes. Where the source's stamps in the range never fall in reading order, its windows are runs of slots, one behind the other: each stamp is read
+// once for its window and once for each column. Where they fall, the next window is searched each time (`fill`). Both ways do what `fill` of the model says.
+ghost use mathlib.Core.Path.{_≡_};
+ghost use Prim.Native.Nat.{_+_, _*_, _<_, _≤_, _^_};
+ghost use Rattle.model.specs.declared.Outcome.the-variants.{Accepted};
+ghost use Rattle.model.specs.Ring.{walk};
+ghost use Rattle.model.specs.Consolidate.{fill, windows};
+ghost use Rattle.fill.specs.Parts.{Lies, Keeps, jobOf, filledIn};
+ghost use Rattle.span.specs.Rest.{Rest};
+
+// Every window, run by run.
+fn fill_runs(
+    image: &mut [u8],
+    p: fill::Pair,
+    filling: answers::Filling,
+    place: model::Place,
+) -> answers::Filling
+    requires { ⌜ Lies (now image) p × (place .slot < p .reading .slots) × (place .left ≤ p .reading .slots) ⌝ }
+    requires { ⌜ (filling .outcome ≡ Accepted) × (filling .writes + p .reading .series * p .reading .slots ≤ 2 ^ 63) ⌝ }
+    requires { ⌜ Rest (jobOf (now image) p) (p .reading .series) (fill (jobOf (now image) p) (filledIn (now image) p filling) (windows (jobOf (now image) p)) (p .reading .series)) (filledIn (now image) p filling) (walk (p .reading .slots) (place .slot) (place .left)) ⌝ }
+    ensures { λ r. ⌜ filledIn (now (image .exit)) p r ≡ fill (jobOf (now (image .entry)) p) (filledIn (now (image .entry)) p filling) (windows (jobOf (now (image .entry)) p)) (p .reading .series) ⌝ }
+    ensures { λ r. ⌜ Keeps (now (image .entry)) (now (image .exit)) p × (r .writes ≤ filling .writes + p .reading .series * p .reading .slots) ⌝ }
+{
+    let q = p.reading;
+    let from = p.from;
+    let to = p.to;
+    let mut done = filling;
+    let mut slot = place.slot;
+    let mut left = place.left;
+    while 0 < left {
+        let here = model::Place {
+            slot: slot,
+            left: left,
+        };
+        let r = span::next_run(&image[from..to], q, here);
+        let run = r.run;
+        let rest = r.rest;
+        done = fill::fill_window(image, p, done, r.window, run);
+        let outcome = done.outcome;
+        let model::Outcome::Accepted = outcome else {
+            return done;
+        };
+        slot = rest.slot;
+        left = rest.left;
+    }
+    done
+}
+
+// Every window of a pair.
+pub fn fill_pair(image: &mut [u8], p: fill::Pair, filling: answers::Filling) -> answers::Filling
+    requires { ⌜ Lies (now image) p ⌝ }
+    requires { ⌜ (filling .outcome ≡ Accepted) × (filling .writes + p .reading .series * p .reading .slots ≤ 2 ^ 63) ⌝ }
+    ensures { λ r. ⌜ filledIn (now (image .exit)) p r ≡ fill (jobOf (now (image .entry)) p) (filledIn (now (image .entry)) p filling) (windows (jobOf (now (image .entry)) p)) (p .reading .series) ⌝ }
+    ensures { λ r. ⌜ Keeps (now (image .entry)) (now (image .exit)) p × (r .writes ≤ filling .writes + p .reading .series * p .reading .slots) ⌝ }
+{
+    let q = p.reading;
+    if q.end <= q.start {
+        return filling;
+    }
+    let from = p.from;
+    let to = p.to;
+    let first = ring::first_place(&image[from..to], q.slots, q.series, q.wrapped);
+    let place = span::skip(&image[from..to], q, 0, 0, first);
+    let rising = span::ascends(&image[from..to], q, place);
+    if rising {
+        return fill_runs(image, p, filling, place);
+    }
+    fill::fill_windows(image, p, filling, first)
+}
