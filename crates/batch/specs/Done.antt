@@ -9,3 +9,7 @@ use Rattle.model.specs.Record.{Entry, batchCheck, batchOn}
 pub record BatchDone (l : Lent) (es : List Entry) (t number : ℕ) (after : Lent) : Type 0 where
   pub answer-is : number ≡ batchCheck l es t
   pub lent-is : after ≡ batchOn (batchCheck l es t) l es t
+
+-- with the same flags lent otherwise
+pub same-done : {l m u w : Lent} {es : List Entry} {t n : ℕ} → l ≡ m → u ≡ w → BatchDone m es t n w → BatchDone l es t n u
+same-done e f d = rw (e, f) d

@@ -1,4 +1,4 @@
-// `record_batch` by value: opening's order on every call, then 11 for any entry, 13, 12, then one write to the finest ring of each schema that has entries
+// `record_batch` by value, with the flags as one number or as a record: opening's order on every call, then 11 for any entry, 13, 12, then one write to the finest ring of each schema that has entries
 // (Rust's `Store::record_batch`). A refused batch stores nothing; an empty one is accepted at any stamp and changes nothing.
 ghost use mathlib.Core.Path.{_≡_};
 ghost use mathlib.Core.Bool.{true};
@@ -8,20 +8,15 @@ ghost use Rattle.model.specs.Image.{schemas, openCheck};
 ghost use Rattle.model.specs.Lent.{Lent};
 ghost use Rattle.model.specs.Record.{entries, entriesOf, everyEntry, writeTo, writeSchemas};
 ghost use Rattle.lent.specs.Parts.{lentOf};
+ghost use Rattle.bits.specs.One.{lentAt};
 ghost use Rattle.entries.specs.Entries.{fits};
 ghost use Rattle.batch.specs.Done.{BatchDone};
 
 // Writes a schema's entries to its finest ring. Answers the flags.
-fn store_schema(
-    image: &mut [u8],
-    flags: model::Flags,
-    schema: u64,
-    batch: &[u8],
-    stamp: u64,
-) -> model::Flags
+fn store_schema(image: &mut [u8], flags: u32, schema: u64, batch: &[u8], stamp: u64) -> u32
     requires { ⌜ openCheck (now image) ≡ 0 ⌝ }
     requires { ⌜ (schema < schemas (now image)) × (everyEntry (fits (now image)) (entries (now batch)) ≡ true) ⌝ }
-    ensures { λ r. ⌜ lentOf (now (image .exit)) r ≡ writeTo (lentOf (now (image .entry)) flags) schema (entriesOf schema (entries (now (batch .entry)))) stamp ⌝ }
+    ensures { λ r. ⌜ lentAt (now (image .exit)) r ≡ writeTo (lentAt (now (image .entry)) flags) schema (entriesOf schema (entries (now (batch .entry)))) stamp ⌝ }
 {
     let row = lent::first_row(image, schema);
     let slab = lent::slab_at(image, row);
@@ -30,7 +25,7 @@ fn store_schema(
     let n = slab.slots;
     let m = slab.series;
     let interval = slab.interval;
-    let wrapped = lent::flag(flags, row);
+    let wrapped = bits::flag_at(flags, row);
     let after = write::write_batch(
         &mut image[from..to],
         n,
@@ -41,14 +36,14 @@ fn store_schema(
         stamp,
         wrapped,
     );
-    lent::with_flag(flags, row, after)
+    bits::with_flag(flags, row, after)
 }
 
 // Writes every schema's entries, schema by schema. Answers the flags.
-fn store_schemas(image: &mut [u8], flags: model::Flags, batch: &[u8], stamp: u64) -> model::Flags
+fn store_schemas(image: &mut [u8], flags: u32, batch: &[u8], stamp: u64) -> u32
     requires { ⌜ openCheck (now image) ≡ 0 ⌝ }
     requires { ⌜ everyEntry (fits (now image)) (entries (now batch)) ≡ true ⌝ }
-    ensures { λ r. ⌜ lentOf (now (image .exit)) r ≡ writeSchemas (lentOf (now (image .entry)) flags) 0 (schemas (now (image .entry))) (entries (now (batch .entry))) stamp ⌝ }
+    ensures { λ r. ⌜ lentAt (now (image .exit)) r ≡ writeSchemas (lentAt (now (image .entry)) flags) 0 (schemas (now (image .entry))) (entries (now (batch .entry))) stamp ⌝ }
 {
     let count = field::get_u32(image, 8);
     let mut next = flags;
@@ -66,19 +61,19 @@ fn store_schemas(image: &mut [u8], flags: model::Flags, batch: &[u8], stamp: u64
 }
 
 // Records a batch of one entry or more, once opening's check has passed: 11, 13, 12, or the writes.
-fn batch_opened(image: &mut [u8], flags: model::Flags, batch: &[u8], stamp: u64) -> record::Recorded
+fn batch_opened(image: &mut [u8], flags: u32, batch: &[u8], stamp: u64) -> bits::Numbered
     requires { ⌜ openCheck (now image) ≡ 0 ⌝ }
-    ensures { λ r. ⌜ BatchDone (lentOf (now (image .entry)) flags) (entries (now (batch .entry))) stamp (outcomeNo (r .outcome)) (lentOf (now (image .exit)) (r .flags)) ⌝ }
+    ensures { λ r. ⌜ BatchDone (lentAt (now (image .entry)) flags) (entries (now (batch .entry))) stamp (outcomeNo (r .outcome)) (lentAt (now (image .exit)) (r .flags)) ⌝ }
 {
     if batch.len() < 16 {
-        return record::Recorded {
+        return bits::Numbered {
             outcome: model::Outcome::Accepted,
             flags: flags,
         };
     }
     let outside = entries::any_outside(image, batch);
     if outside {
-        return record::Recorded {
+        return bits::Numbered {
             outcome: model::Outcome::Refused(model::Refusal::InvalidHandle),
             flags: flags,
         };
@@ -86,22 +81,36 @@ fn batch_opened(image: &mut [u8], flags: model::Flags, batch: &[u8], stamp: u64)
     let bad = record::is_bad_stamp(stamp);
     let infinite = entries::any_infinite(batch);
     if bad {
-        return record::Recorded {
+        return bits::Numbered {
             outcome: model::Outcome::Refused(model::Refusal::InvalidTimestamp),
             flags: flags,
         };
     }
     if infinite {
-        return record::Recorded {
+        return bits::Numbered {
             outcome: model::Outcome::Refused(model::Refusal::InvalidValue),
             flags: flags,
         };
     }
     let next = store_schemas(image, flags, batch, stamp);
-    record::Recorded {
+    bits::Numbered {
         outcome: model::Outcome::Accepted,
         flags: next,
     }
+}
+
+// Records a batch, with the flags as a number.
+pub fn record_numbered(image: &mut [u8], flags: u32, batch: &[u8], stamp: u64) -> bits::Numbered
+    ensures { λ r. ⌜ BatchDone (lentAt (now (image .entry)) flags) (entries (now (batch .entry))) stamp (outcomeNo (r .outcome)) (lentAt (now (image .exit)) (r .flags)) ⌝ }
+{
+    let opened = quick::check(image);
+    let model::Outcome::Accepted = opened else {
+        return bits::Numbered {
+            outcome: opened,
+            flags: flags,
+        };
+    };
+    batch_opened(image, flags, batch, stamp)
 }
 
 // Records a batch.
@@ -113,12 +122,12 @@ pub fn record_batch(
 ) -> record::Recorded
     ensures { λ r. ⌜ BatchDone (lentOf (now (image .entry)) flags) (entries (now (batch .entry))) stamp (outcomeNo (r .outcome)) (lentOf (now (image .exit)) (r .flags)) ⌝ }
 {
-    let opened = quick::check(image);
-    let model::Outcome::Accepted = opened else {
-        return record::Recorded {
-            outcome: opened,
-            flags: flags,
-        };
-    };
-    batch_opened(image, flags, batch, stamp)
+    let number = bits::number_of(flags);
+    let done = record_numbered(image, number, batch, stamp);
+    let next = bits::flags_of(done.flags);
+    let outcome = done.outcome;
+    record::Recorded {
+        outcome: outcome,
+        flags: next,
+    }
 }

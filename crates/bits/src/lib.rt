@@ -1,7 +1,15 @@
 // The wrap flags as one number, as they cross the edge to C: bit i is row i's flag. Every number stands for some flags, so a caller can lend any.
 ghost use mathlib.Core.Path.{_≡_};
-ghost use Prim.Native.Nat.{_≤_};
+ghost use mathlib.Core.Bool.{true, false};
+ghost use Prim.Native.Nat.{_<_, _≤_};
+ghost use lib.ListN.{getD, set};
 ghost use Rattle.bits.specs.Bits.{bits, bitOf, number};
+
+// The answer of a call, and the flags after it.
+pub struct Numbered {
+    pub outcome: model::Outcome,
+    pub flags: u32,
+}
 
 // The flags of a number: row i's is its bit i.
 pub fn flags_of(number: u32) -> model::Flags
@@ -44,4 +52,27 @@ pub fn number_of(flags: model::Flags) -> u32
 {
     let wrapped = flags.wrapped;
     number_in(wrapped)
+}
+
+// Row's flag.
+pub fn flag_at(number: u32, row: usize) -> bool
+    requires { ⌜ row < 32 ⌝ }
+    ensures { λ r. ⌜ r ≡ getD (bits 32 number) row false ⌝ }
+{
+    (number >> row) % 2 == 1
+}
+
+// The number with row's flag set to `flag`, where it was not set before or is still.
+pub fn with_flag(number: u32, row: usize, flag: bool) -> u32
+    requires { ⌜ (row < 32) × (getD (bits 32 number) row false ≡ true → flag ≡ true) ⌝ }
+    ensures { λ r. ⌜ bits 32 r ≡ set (bits 32 number) row flag ⌝ }
+{
+    let old = flag_at(number, row);
+    if flag {
+        if old {
+            return number;
+        }
+        return number + (1 << row);
+    }
+    number
 }

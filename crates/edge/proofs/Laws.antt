@@ -18,12 +18,13 @@ use Rattle.model.specs.Words.{numberOf}
 use Rattle.model.specs.Query.{QueryReply, repliedBy}
 use Rattle.model.specs.Lent.{Lent}
 use Rattle.model.specs.Record.{Entry}
-use Rattle.model.specs.Store.{Call, Done, call, recordCall, batchCall, consolidateCall, consolidatedReply}
+use Rattle.model.specs.Store.{Done, call, recordCall, batchCall, consolidateCall, consolidatedReply}
 use Rattle.lent.specs.Parts.{lentOf}
 use Rattle.record.specs.Done.{RecordDone}
 use Rattle.batch.specs.Done.{BatchDone}
 use Rattle.bits.specs.Bits.{bits, bitOf}
-use Rattle.edge.specs.Edge.{lentAt, doneAs, unlessRefused, replyNo, countOn, endNo, foundWords, queryNo, queryWords, queriedNo, queriedWords, placeWords, nextNo, pointWords}
+use Rattle.bits.specs.One.{lentAt}
+use Rattle.edge.specs.Edge.{doneAs, unlessRefused, replyNo, countOn, endNo, foundWords, queryNo, queryWords, queriedNo, queriedWords, placeWords, nextNo, pointWords}
 
 -- ---- the flags cross as a number
 
@@ -34,11 +35,6 @@ lent-in s f x e = ap (λ w. record { image = s; flags = w }) e
 -- what is left
 pub lent-out : (s : List ℕ) (f : Flags) (x : ℕ) → bits 32 x ≡ f .wrapped → lentAt s x ≡ lentOf s f
 lent-out s f x e = ap (λ w. record { image = s; flags = w }) e
-
--- a call's outcome, with the answer's number m
-pub crossed : (s t : List ℕ) (f g : Flags) (x y m n : ℕ) (q : Call) → f .wrapped ≡ bits 32 x → bits 32 y ≡ g .wrapped → m ≡ n
-    → doneAs n (lentOf t g) ≡ call (lentOf s f) q → doneAs m (lentAt t y) ≡ call (lentAt s x) q
-crossed s t f g x y m n q into out number e = rw (number, lent-out t g y out, ← lent-in s f x into) e
 
 -- ---- a call's outcome
 

@@ -18,12 +18,8 @@ use Rattle.model.specs.Lent.{Lent}
 use Rattle.model.specs.Query.{Answered, QueryReply, found, notFound}
 use Rattle.model.specs.Read.{step}
 use Rattle.model.specs.Store.{Done, Reply, refused, done, wrote, read, doneOr}
-use Rattle.bits.specs.Bits.{bits, bitOf}
+use Rattle.bits.specs.Bits.{bitOf}
 use Rattle.fetch.specs.Fetch.{Fetch, fetchUpTo}
-
--- an image, and the flags whose number is x
-abbrev pub lentAt : List ℕ → ℕ → Lent
-lentAt s x = record { image = s; flags = bits 32 x }
 
 -- done with the number n as its answer: 0 is accepted, another is refused
 abbrev pub doneAs : ℕ → Lent → Done

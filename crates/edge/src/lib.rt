@@ -11,8 +11,9 @@ ghost use Rattle.model.specs.Record.{entries};
 ghost use Rattle.model.specs.Query.{query, queryAuto};
 ghost use Rattle.model.specs.Store.{call, recordCall, batchCall, consolidateCall};
 ghost use Rattle.bits.specs.Bits.{bitOf};
+ghost use Rattle.bits.specs.One.{lentAt};
 ghost use Rattle.fetch.specs.Fetch.{words};
-ghost use Rattle.edge.specs.Edge.{lentAt, doneAs, unlessRefused, replyNo, countOn, endNo, foundWords, queriedNo, queriedWords, queryNo, queryWords, stepAt, placeWords, nextNo, pointWords, fetchAt};
+ghost use Rattle.edge.specs.Edge.{doneAs, unlessRefused, replyNo, countOn, endNo, foundWords, queriedNo, queriedWords, queryNo, queryWords, stepAt, placeWords, nextNo, pointWords, fetchAt};
 
 // The number of an answer: 0, or the refusal's.
 fn outcome_number(outcome: model::Outcome) -> u32
@@ -81,10 +82,8 @@ pub extern "C" fn rondo_record(
         schema: schema,
         column: column,
     };
-    let wrapped = bits::flags_of(*flags);
-    let done = record::record(image, wrapped, handle, value, stamp);
-    let recorded = done.flags;
-    *flags = bits::number_of(recorded);
+    let done = numbered::record(image, *flags, handle, value, stamp);
+    *flags = done.flags;
     let outcome = done.outcome;
     outcome_number(outcome)
 }
@@ -99,10 +98,8 @@ pub extern "C" fn rondo_record_batch(
 ) -> u32
     ensures { λ r. ⌜ doneAs r (lentAt (now (image .exit)) (now (flags .exit))) ≡ call (lentAt (now (image .entry)) (now (flags .entry))) (batchCall (entries (now (batch .entry))) stamp) ⌝ }
 {
-    let wrapped = bits::flags_of(*flags);
-    let done = batch::record_batch(image, wrapped, batch, stamp);
-    let batched = done.flags;
-    *flags = bits::number_of(batched);
+    let done = batch::record_numbered(image, *flags, batch, stamp);
+    *flags = done.flags;
     let outcome = done.outcome;
     outcome_number(outcome)
 }

@@ -1,2 +1,3 @@
 pub mod Done
 pub mod Numbers
+pub mod Ready

@@ -1,9 +1,7 @@
--- A refusal's number is not 0, the number of an accepted call; a test by its negation. Assumes nothing.
+-- A refusal's number is not 0, the number of an accepted call. Assumes nothing.
 use Prim.Native.Nat.{ℕ}
 use native.Mathlib.Omega.{arith}
-use mathlib.Core.Path.{_≡_, refl, sym}
 use mathlib.Core.Logic.{_≢_}
-use mathlib.Core.Bool.{Bool, true, false, not}
 use Rattle.model.specs.declared.Refusal.{Refusal}
 use Rattle.model.specs.declared.Refusal.the-variants.{BadImage, NoTiers, InvalidMaxSeries, InvalidTierConfig, TooManySlots, TiersNotOrdered, ConsolidationOnHighestTier, LayoutTooLarge, ShortBuffer, CorruptedSlab, InvalidHandle, InvalidValue, InvalidTimestamp, InvalidTier, InvalidTimeRange, NoConsolidationFunction}
 use Rattle.model.specs.Words.{numberOf}
@@ -25,12 +23,3 @@ some-number InvalidTimestamp e = omega arith
 some-number InvalidTier e = omega arith
 some-number InvalidTimeRange e = omega arith
 some-number NoConsolidationFunction e = omega arith
-
--- a test that was negated
-pub fails : (b : Bool) → not b ≡ true → b ≡ false
-fails true e = sym e
-fails false e = refl
-
-pub passes : (b : Bool) → not b ≡ false → b ≡ true
-passes true e = refl
-passes false e = sym e

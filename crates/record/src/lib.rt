@@ -1,16 +1,16 @@
 // `record` by value: opening's order on every call, then 11, 12, 13, then the write to the schema's finest ring (Rust's `Store::record`). The row's slab is
-// lent on as a part of the image; other slabs' bytes, other rows' flags and the surplus stay.
+// lent on as a part of the image; other slabs' bytes, other rows' flags and the surplus stay. `ready` and `store` know one flag alone, so that a caller may keep
+// its flags as it likes.
 ghost use mathlib.Core.Path.{_≡_};
 ghost use mathlib.Core.Bool.{not};
 ghost use Prim.Native.Nat.{_<_};
 ghost use Rattle.model.specs.Words.{outcomeNo};
 ghost use Rattle.model.specs.Image.{rowCount, rowAt, openCheck};
-ghost use Rattle.model.specs.Ring.{write};
-ghost use Rattle.model.specs.Lent.{ring, withRing};
 ghost use Rattle.model.specs.Record.{stampOk};
 ghost use Rattle.ring.specs.Parts.{one};
 ghost use Rattle.lent.specs.Parts.{lentOf};
 ghost use Rattle.record.specs.Done.{RecordDone};
+ghost use Rattle.record.specs.Ready.{Readied, RowWritten};
 
 // The answer, and the flags after the call.
 pub struct Recorded {
@@ -25,18 +25,18 @@ pub fn is_bad_stamp(stamp: u64) -> bool
     stamp == 0 || stamp >= 0x8000_0000_0000_0000
 }
 
-// Stores one value in a row's ring. Answers the flags.
-fn store(
+// Stores one value in a row's ring, whose flag is `wrapped`. Answers the flag.
+pub fn store(
     image: &mut [u8],
-    flags: model::Flags,
     row: usize,
     column: usize,
     value: u64,
     stamp: u64,
-) -> model::Flags
+    wrapped: bool,
+) -> bool
     requires { ⌜ openCheck (now image) ≡ 0 ⌝ }
     requires { ⌜ (row < rowCount (now image)) × (column < rowAt (now image) row .series) ⌝ }
-    ensures { λ r. ⌜ lentOf (now (image .exit)) r ≡ withRing (lentOf (now (image .entry)) flags) row (write (ring (lentOf (now (image .entry)) flags) row) (one column value) stamp) ⌝ }
+    ensures { λ r. ⌜ RowWritten (now (image .entry)) (now (image .exit)) row (one column value) stamp wrapped r ⌝ }
 {
     let slab = lent::slab_at(image, row);
     let from = slab.from;
@@ -44,8 +44,7 @@ fn store(
     let n = slab.slots;
     let m = slab.series;
     let interval = slab.interval;
-    let wrapped = lent::flag(flags, row);
-    let after = write::write(
+    write::write(
         &mut image[from..to],
         n,
         m,
@@ -54,47 +53,43 @@ fn store(
         value,
         stamp,
         wrapped,
-    );
-    lent::with_flag(flags, row, after)
+    )
 }
 
-// Records one value, once opening's check has passed: 11, 12, 13, or the write.
-fn record_opened(
-    image: &mut [u8],
-    flags: model::Flags,
-    handle: model::SeriesHandle,
-    value: u64,
-    stamp: u64,
-) -> Recorded
+// Where a value goes: the row of its ring. Or why it is refused.
+pub enum Target {
+    Row(usize),
+    Refused(model::Refusal),
+}
+
+// Where a value goes, once opening's check has passed: 11, 12, 13, or its row.
+fn ready_opened(image: &[u8], handle: model::SeriesHandle, value: u64, stamp: u64) -> Target
     requires { ⌜ openCheck (now image) ≡ 0 ⌝ }
-    ensures { λ r. ⌜ RecordDone (lentOf (now (image .entry)) flags) (handle .schema) (handle .column) value stamp (outcomeNo (r .outcome)) (lentOf (now (image .exit)) (r .flags)) ⌝ }
+    ensures { λ r. ⌜ Readied (now (image .entry)) (handle .schema) (handle .column) value stamp r ⌝ }
 {
-    let column = handle.column as u64;
-    let found = lent::finest_row(image, handle.schema as u64, column);
+    let found = lent::finest_row(image, handle.schema as u64, handle.column as u64);
     let lent::Finest::At(row) = found else {
-        return Recorded {
-            outcome: model::Outcome::Refused(model::Refusal::InvalidHandle),
-            flags: flags,
-        };
+        return Target::Refused(model::Refusal::InvalidHandle);
     };
     let infinite = field::is_infinite(value);
     let bad = is_bad_stamp(stamp);
     if infinite {
-        return Recorded {
-            outcome: model::Outcome::Refused(model::Refusal::InvalidValue),
-            flags: flags,
-        };
+        return Target::Refused(model::Refusal::InvalidValue);
     }
     if bad {
-        return Recorded {
-            outcome: model::Outcome::Refused(model::Refusal::InvalidTimestamp),
-            flags: flags,
-        };
+        return Target::Refused(model::Refusal::InvalidTimestamp);
     }
-    let next = store(image, flags, row, column as usize, value, stamp);
-    Recorded {
-        outcome: model::Outcome::Accepted,
-        flags: next,
+    Target::Row(row)
+}
+
+// Where a value goes.
+pub fn ready(image: &[u8], handle: model::SeriesHandle, value: u64, stamp: u64) -> Target
+    ensures { λ r. ⌜ Readied (now (image .entry)) (handle .schema) (handle .column) value stamp r ⌝ }
+{
+    let opened = quick::check(image);
+    match opened {
+        model::Outcome::Accepted => ready_opened(image, handle, value, stamp),
+        model::Outcome::Refused(r) => Target::Refused(r),
     }
 }
 
@@ -108,12 +103,20 @@ pub fn record(
 ) -> Recorded
     ensures { λ r. ⌜ RecordDone (lentOf (now (image .entry)) flags) (handle .schema) (handle .column) value stamp (outcomeNo (r .outcome)) (lentOf (now (image .exit)) (r .flags)) ⌝ }
 {
-    let opened = quick::check(image);
-    let model::Outcome::Accepted = opened else {
-        return Recorded {
-            outcome: opened,
+    let found = ready(image, handle, value, stamp);
+    match found {
+        Target::Row(row) => {
+            let wrapped = lent::flag(flags, row);
+            let after = store(image, row, handle.column as usize, value, stamp, wrapped);
+            let next = lent::with_flag(flags, row, after);
+            Recorded {
+                outcome: model::Outcome::Accepted,
+                flags: next,
+            }
+        }
+        Target::Refused(r) => Recorded {
+            outcome: model::Outcome::Refused(r),
             flags: flags,
-        };
-    };
-    record_opened(image, flags, handle, value, stamp)
+        },
+    }
 }

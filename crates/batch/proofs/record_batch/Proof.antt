@@ -1,50 +1,29 @@
--- `batch::record_batch` meets its contract: opening's refusal, or what `batch_opened` does. Assumes nothing.
-use mathlib.Core.Path.{_≡_, sym, ap, _∙_}
-use Rattle.model.specs.Words.{outcomeNo}
-use Rattle.model.specs.Record.{entries}
-use Rattle.lent.specs.Parts.{lentOf}
-use Rattle.record.specs.Numbers.{some-number}
-use Rattle.batch.proofs.Laws.{not-opened}
+-- `batch::record_batch` meets its contract: `record_numbered`, with the flags as a record. Assumes nothing.
+use mathlib.Core.Path.{sym, ap}
+use Rattle.record.specs.Ready.{lentBy}
+use Rattle.batch.specs.Done.{same-done}
 use borrow.Author.Needs.{needs}
 use Rattle.batch.proofs.record_batch.Statement.{statement}
 use Rattle.batch.proofs.record_batch.Tie as tie
 
-check-requires : tie.Need-check-requires
-check-requires c κs = search needs
+number-of-requires : tie.Need-number-of-requires
+number-of-requires c κs = search needs
 
-enum-told : tie.Need-enum-told
-enum-told c = search needs
+record-numbered-requires : tie.Need-record-numbered-requires
+record-numbered-requires c κs = search needs
 
-enum-told-2 : tie.Need-enum-told-2
-enum-told-2 c = search needs
+flags-of-requires : tie.Need-flags-of-requires
+flags-of-requires c κs = search needs
 
 same-length : tie.Need-same-length
 same-length c = search needs
 
 returns : tie.Need-returns
 returns c =
-    let start = c .before .before .before .before .before .before in
-    let e = c .enum-told2 .given .1 in
-    not-opened (lentOf (start .args .image .now) (start .args .flags)) (start .args .stamp) (entries (start .args .batch .now)) (outcomeNo (c .before .before .check .result)) (c .before .before .check .ensures) (λ z. some-number (c .enum-told2 .given .0 .0) (sym (ap outcomeNo e) ∙ z))
-
-batch-opened-requires : tie.Need-batch-opened-requires
-batch-opened-requires c κs = sym (c .before .before .before .check .ensures) ∙ ap outcomeNo (c .before .enum-told .given .1)
-
-same-length-2 : tie.Need-same-length-2
-same-length-2 c = search needs
-
-returns-2 : tie.Need-returns-2
-returns-2 c = search needs
+    let start = c .before .before .before .before .before .before .before .before in
+    same-done (ap (lentBy (start .args .image .now)) (sym (c .before .before .before .before .before .number-of .ensures .1))) (ap (lentBy _) (c .flags-of .ensures)) (c .before .before .before .record-numbered .ensures)
 
 pub record-batch-spec : {M : Type 1} → statement M
 record-batch-spec =
     tie.close
-    (tie.spec
-    check-requires
-    enum-told
-    enum-told-2
-    same-length
-    returns
-    batch-opened-requires
-    same-length-2
-    returns-2)
+    (tie.spec number-of-requires record-numbered-requires flags-of-requires same-length returns)

@@ -3,6 +3,7 @@ use native.Mathlib.Nat.{add-zero}
 use mathlib.Core.Path.{_≡_, sym, ap, _∙_}
 use Rattle.model.specs.Lent.{rowNo}
 use Rattle.model.specs.Record.{entries, entriesOf, writeTo}
+use Rattle.bits.specs.Bits.{bits}
 use Rattle.record.proofs.Laws.{lent-sound, lent-write}
 use Rattle.batch.proofs.Laws.{columns-at}
 use borrow.Author.Needs.{needs}
@@ -15,8 +16,8 @@ first-row-requires c κs = search needs
 slab-at-requires : tie.Need-slab-at-requires
 slab-at-requires c κs = search needs
 
-flag-requires : tie.Need-flag-requires
-flag-requires c κs = search needs
+flag-at-requires : tie.Need-flag-at-requires
+flag-at-requires c κs = search needs
 
 sub-write-batch : tie.Need-sub-write-batch
 sub-write-batch c = search needs
@@ -38,7 +39,10 @@ write-batch-requires c κs =
     )
 
 with-flag-requires : tie.Need-with-flag-requires
-with-flag-requires c κs = search needs
+with-flag-requires c κs =
+    let start = c .before .before .before .before .before .before .before .before .before .before .before in
+    let w = lent-write (c .before .before .before .before .before .slab-at .ensures) (entriesOf (start .args .schema) (entries (start .args .batch .now))) (start .args .stamp) (search needs) (c .before .before .write-batch .ensures .0) in
+    (c .before .before .before .before .before .slab-at .ensures .few-rows, λ e. w .stays (c .before .before .before .before .flag-at .ensures ∙ e))
 
 same-length : tie.Need-same-length
 same-length c = search needs
@@ -47,9 +51,8 @@ returns : tie.Need-returns
 unfolding writeTo rowNo
 returns c =
     let start = c .before .before .before .before .before .before .before .before .before .before .before .before in
-    let es = entriesOf (start .args .schema) (entries (start .args .batch .now)) in
-    let e = lent-write (c .before .before .before .before .before .before .slab-at .ensures) (start .args .flags) es (start .args .stamp) (c .before .before .before .before .before .flag .ensures) (search needs) (c .before .before .before .write-batch .ensures .0) (c .with-flag .ensures) in
-    e ∙ rw (add-zero, c .before .before .before .before .before .before .before .before .first-row .ensures .0)
+    let w = lent-write (c .before .before .before .before .before .before .slab-at .ensures) (entriesOf (start .args .schema) (entries (start .args .batch .now))) (start .args .stamp) (search needs) (c .before .before .before .write-batch .ensures .0) in
+    rw (c .with-flag .ensures, add-zero, ← c .before .before .before .before .before .before .before .before .first-row .ensures .0) (w .lent-is (bits 32 (start .args .flags)) (c .before .before .before .before .before .flag-at .ensures))
 
 pub store-schema-spec : {M : Type 1} → statement M
 store-schema-spec =
@@ -57,7 +60,7 @@ store-schema-spec =
     (tie.spec
     first-row-requires
     slab-at-requires
-    flag-requires
+    flag-at-requires
     sub-write-batch
     part-write-batch-start
     part-write-batch-end

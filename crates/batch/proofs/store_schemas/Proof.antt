@@ -5,7 +5,7 @@ use mathlib.Core.Path.{_≡_, refl, sym, ap, _∙_, subst}
 use lib.ListN.{length}
 use Rattle.model.specs.Image.{schemas}
 use Rattle.model.specs.Record.{entries, writeSchemas}
-use Rattle.lent.specs.Parts.{lentOf}
+use Rattle.bits.specs.One.{lentAt}
 use Rattle.lent.proofs.Laws.{header-in-slice}
 use Rattle.batch.proofs.Laws.{Running, starts, schema-in, goes-on, passes, ends}
 use borrow.Author.Needs.{needs}
@@ -13,10 +13,10 @@ use Rattle.batch.proofs.store_schemas.Statement.{statement}
 use Rattle.batch.proofs.store_schemas.Tie as tie
 
 abbrev Inv-loop : tie.InvT-loop
-Inv-loop image₀ batch stamp count next₀ k₀ image next k = (length image ≡ length image₀) × Running (lentOf image₀ next₀) (entries batch) stamp count (lentOf image next) k
+Inv-loop image₀ flags batch stamp count next₀ k₀ image next k = (length image ≡ length image₀) × Running (lentAt image₀ next₀) (entries batch) stamp count (lentAt image next) k
 
 abbrev μ-loop : tie.MeasureT-loop
-μ-loop image₀ batch stamp count next₀ k₀ image next k = count - k
+μ-loop image₀ flags batch stamp count next₀ k₀ image next k = count - k
 
 get-u32-requires : tie.Need-get-u32-requires Inv-loop μ-loop
 get-u32-requires c κs =
@@ -27,7 +27,7 @@ loop-holds : tie.Need-loop-holds Inv-loop μ-loop
 unfolding schemas
 loop-holds c =
     let start = c .before .before .before .before in
-    (refl, starts (lentOf (start .args .image .now) (start .args .flags)) (entries (start .args .batch .now)) (start .args .stamp) (c .get-u32 .result) (start .pre .0) (c .get-u32 .ensures .0) (start .pre .1))
+    (refl, starts (lentAt (start .args .image .now) (start .args .flags)) (entries (start .args .batch .now)) (start .args .stamp) (c .get-u32 .result) (start .pre .0) (c .get-u32 .ensures .0) (start .pre .1))
 
 has-entry-requires : tie.Need-has-entry-requires Inv-loop μ-loop
 has-entry-requires c κs = search needs

@@ -1,48 +1,65 @@
--- `record::record` meets its contract: opening's refusal, or what `record_opened` does. Assumes nothing.
-use mathlib.Core.Path.{_≡_, sym, ap, _∙_}
-use Rattle.model.specs.Words.{outcomeNo}
-use Rattle.record.specs.Numbers.{some-number}
-use Rattle.record.proofs.Laws.{not-opened}
+-- `record::record` meets its contract: the refusal that `ready` found, or the write to the row that it found. Assumes nothing.
+use native.Mathlib.Omega.{arith}
+use Rattle.lent.specs.Parts.{lentOf, withFlag}
+use Rattle.lent.specs.Handle.{row-there}
+use Rattle.record.specs.Ready.{row-ready, refusal-ready, refused, recorded}
 use borrow.Author.Needs.{needs}
 use Rattle.record.proofs.record.Statement.{statement}
 use Rattle.record.proofs.record.Tie as tie
 
-check-requires : tie.Need-check-requires
-check-requires c κs = search needs
+ready-requires : tie.Need-ready-requires
+ready-requires c κs = search needs
 
-enum-told : tie.Need-enum-told
-enum-told c = search needs
+enum-known-found : tie.Need-enum-known-found
+enum-known-found c = search needs
 
-enum-told-2 : tie.Need-enum-told-2
-enum-told-2 c = search needs
+flag-requires : tie.Need-flag-requires
+flag-requires c κs = row-ready (c .before .found .given .1) (c .before .before .before .ready .ensures) .few-rows
+
+cast-store : tie.Need-cast-store
+cast-store c = search needs
+
+store-requires : tie.Need-store-requires
+store-requires c κs =
+    let start = c .before .before .before .before .before .before .before .before .before in
+    let r = row-ready (c .before .before .before .before .found .given .1) (c .before .before .before .before .before .before .ready .ensures) in
+    (r .opened, row-there (lentOf (start .args .image .now) (start .args .flags)) (start .args .handle .schema) (start .args .handle .column) (r .opened) (r .row-is))
+
+with-flag-requires : tie.Need-with-flag-requires
+with-flag-requires c κs = row-ready (c .before .before .before .before .before .before .before .found .given .1) (c .before .before .before .before .before .before .before .before .before .ready .ensures) .few-rows
+
+enum-known-found-2 : tie.Need-enum-known-found-2
+enum-known-found-2 c = search needs
 
 same-length : tie.Need-same-length
 same-length c = search needs
 
 returns : tie.Need-returns
+unfolding withFlag
 returns c =
-    let start = c .before .before .before .before .before in
-    let e = c .enum-told2 .given .1 in
-    not-opened (start .args .image .now) (start .args .flags) (start .args .handle .schema) (start .args .handle .column) (start .args .value) (start .args .stamp) (outcomeNo (c .before .before .check .result)) (c .before .before .check .ensures) (λ z. some-number (c .enum-told2 .given .0 .0) (sym (ap outcomeNo e) ∙ z))
-
-record-opened-requires : tie.Need-record-opened-requires
-record-opened-requires c κs = sym (c .before .before .before .check .ensures) ∙ ap outcomeNo (c .before .enum-told .given .1)
+    let start = c .before .before .before .before .before .before .before .before .before .before .before .before .before in
+    rw (c .with-flag .ensures) (recorded (start .args .image .now) (start .args .flags .wrapped) (start .args .handle .schema) (start .args .handle .column) (start .args .value) (start .args .stamp) (row-ready (c .before .before .before .before .before .before .before .before .found .given .1) (c .before .before .before .before .before .before .before .before .before .before .ready .ensures)) (c .before .before .before .store .ensures) (c .before .before .before .before .before .before .flag .ensures))
 
 same-length-2 : tie.Need-same-length-2
 same-length-2 c = search needs
 
 returns-2 : tie.Need-returns-2
-returns-2 c = search needs
+returns-2 c =
+    let start = c .before .before .before .before .before .before in
+    refused (start .args .image .now) (start .args .flags .wrapped) (start .args .handle .schema) (start .args .handle .column) (start .args .value) (start .args .stamp) (c .before .found2 .given .0 .0) (refusal-ready (start .args .image .now) (start .args .handle .schema) (start .args .handle .column) (start .args .value) (start .args .stamp) (c .before .found2 .given .1) (c .before .before .before .ready .ensures))
 
 pub record-spec : {M : Type 1} → statement M
 record-spec =
     tie.close
     (tie.spec
-    check-requires
-    enum-told
-    enum-told-2
+    ready-requires
+    enum-known-found
+    flag-requires
+    cast-store
+    store-requires
+    with-flag-requires
+    enum-known-found-2
     same-length
     returns
-    record-opened-requires
     same-length-2
     returns-2)

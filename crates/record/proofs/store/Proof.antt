@@ -9,9 +9,6 @@ use Rattle.record.proofs.store.Tie as tie
 slab-at-requires : tie.Need-slab-at-requires
 slab-at-requires c κs = search needs
 
-flag-requires : tie.Need-flag-requires
-flag-requires c κs = search needs
-
 sub-write : tie.Need-sub-write
 sub-write c = search needs
 
@@ -22,29 +19,24 @@ part-write-end : tie.Need-part-write-end
 part-write-end c = search needs
 
 write-requires : tie.Need-write-requires
-write-requires c κs = (lent-sound (c .before .before .slab-at .ensures), (c .before .before .slab-at .ensures .some-interval, omega arith))
-
-with-flag-requires : tie.Need-with-flag-requires
-with-flag-requires c κs = search needs
+write-requires c κs = (lent-sound (c .before .slab-at .ensures), (c .before .slab-at .ensures .some-interval, omega arith))
 
 same-length : tie.Need-same-length
 same-length c = search needs
 
 returns : tie.Need-returns
 returns c =
-    let start = c .before .before .before .before .before .before .before .before .before in
-    lent-write (c .before .before .before .before .before .before .slab-at .ensures) (start .args .flags) (one (start .args .column) (start .args .value)) (start .args .stamp) (c .before .before .before .before .before .flag .ensures) (search needs) (c .before .before .before .write .ensures .0) (c .with-flag .ensures)
+    let start = c .before .before .before .before .before .before .before in
+    lent-write (c .before .before .before .before .slab-at .ensures) (one (start .args .column) (start .args .value)) (start .args .stamp) (search needs) (c .before .before .write .ensures .0)
 
 pub store-spec : {M : Type 1} → statement M
 store-spec =
     tie.close
     (tie.spec
     slab-at-requires
-    flag-requires
     sub-write
     part-write-start
     part-write-end
     write-requires
-    with-flag-requires
     same-length
     returns)
