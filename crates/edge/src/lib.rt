@@ -252,13 +252,15 @@ pub extern "C" fn rondo_read(
     ensures moved { λ r. ⌜ now (place .exit) ≡ placeWords (fetchAt (length (now (points .entry)) / 2) (now (slab .entry)) column start end (now (place .entry)) .place) ⌝ }
     ensures stored { λ r. ⌜ now (points .exit) ≡ sets (now (points .entry)) 0 (words (fetchAt (length (now (points .entry)) / 2) (now (slab .entry)) column start end (now (place .entry)) .points)) ⌝ }
 {
-    let from = model::Place {
-        slot: place[0],
-        left: place[1],
+    let slot = place[0];
+    let left = place[1];
+    let at = model::Place {
+        slot: slot,
+        left: left,
     };
-    let fetched = fetch::fetch(slab, column, start, end, from, points);
-    let to = fetched.place;
-    *place = [to.slot, to.left];
+    let fetched = fetch::fetch(slab, column, start, end, at, points);
+    let behind = fetched.place;
+    *place = [behind.slot, behind.left];
     fetched.count
 }
 

@@ -7,11 +7,11 @@ use borrow.Author.Needs.{needs}
 use Rattle.edge.proofs.rondo_read.Statement.{statement}
 use Rattle.edge.proofs.rondo_read.Tie as tie
 
-element-copy-out-t12 : tie.Need-element-copy-out-t12
-element-copy-out-t12 c = search needs
+element-copy-out-slot : tie.Need-element-copy-out-slot
+element-copy-out-slot c = search needs
 
-element-copy-out-t15 : tie.Need-element-copy-out-t15
-element-copy-out-t15 c = search needs
+element-copy-out-left : tie.Need-element-copy-out-left
+element-copy-out-left c = search needs
 
 fetch-requires : tie.Need-fetch-requires
 fetch-requires c κs = search needs
@@ -28,4 +28,4 @@ returns c =
 pub rondo-read-spec : {M : Type 1} → statement M
 rondo-read-spec =
     tie.close
-    (tie.spec element-copy-out-t12 element-copy-out-t15 fetch-requires same-length returns)
+    (tie.spec element-copy-out-slot element-copy-out-left fetch-requires same-length returns)
