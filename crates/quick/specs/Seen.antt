@@ -1,5 +1,6 @@
 -- What each part of the quick pass has seen when it says "good", in terms of what it reads; and that all parts together are a pass. Assumes nothing.
-use Prim.Native.Nat.{ℕ, zero, suc, _+_, _*_, _^_, _≤_, _<_}
+use Prim.Native.Nat.{ℕ, zero, suc, _+_, _*_, _/_, _^_, _≤_, _<_}
+use native.Mathlib.Nat.{mul-le-mul-right, le-div-iff-mul-le, div-lt-iff-lt-mul}
 use native.Mathlib.Numerals.{add-one}
 use native.Mathlib.Omega.{arith}
 use native.Mathlib.Decide.{ℕ-discrete}
@@ -8,7 +9,7 @@ use mathlib.Core.List.{List}
 use lib.ListN.{length}
 use Rattle.model.specs.declared.Row.{Row}
 use Rattle.model.specs.Bytes.{get, part}
-use Rattle.model.specs.Layout.{slabLength}
+use Rattle.model.specs.Layout.{slotCount, slabLength}
 use Rattle.model.specs.Image.{schemas, rowCount, totalLength, rowPlace, rowAt, rowsFrom, rows, rowSlots, rowLength, slabsEnd, imageLength, slabOf, openCheck}
 use Rattle.model.specs.Ring.{slots, series, interval, cursor}
 use Rattle.laws.specs.Bytes.{get-part}
@@ -28,14 +29,24 @@ pub record Head (s : List ℕ) : Type 0 where
   pub total-low : totalLength s ≤ 2 ^ 40
   pub fits : totalLength s ≤ length s
 
+-- a row by itself
 pub record Alone (r : Row) : Type 0 where
   pub some-series : 0 < r .series
-  pub some-interval : 0 < r .interval
-  pub interval-low : r .interval < 2 ^ 63
-  pub retention-low : r .retention < 2 ^ 63
-  pub kept : r .interval ≤ r .retention
   pub function-low : r .function ≤ 6
   pub mark-low : r .mark < 2 ^ 63
+
+-- a slab with n slots and m series, and its length, which is not great
+pub record Long (n m len : ℕ) : Type 0 where
+  pub length-is : len ≡ slabLength n m
+  pub few-slots : n < 134_217_728
+  pub head-in : 64 ≤ len
+  pub small : len < 2 ^ 36
+
+-- n slots of interval d are what retention r has, and all are far below 2^63
+pub record Slotted (n d r : ℕ) : Type 0 where
+  pub held : n * d ≤ r
+  pub rest : r < n * d + d
+  pub low : n * d + d < 2 ^ 63
 
 -- the slab's header but for its slots, at `at` of s
 pub record SlabHead (s : List ℕ) (at : ℕ) (r : Row) (n : ℕ) : Type 0 where
@@ -47,15 +58,19 @@ pub record SlabHead (s : List ℕ) (at : ℕ) (r : Row) (n : ℕ) : Type 0 where
   pub cursor-low : get 4 s (at + 32) < n
 
 -- row i, with its slab at `at`
-pub record Here (s : List ℕ) (i at total : ℕ) : Type 0 where
+pub record Here (s : List ℕ) (i at : ℕ) : Type 0 where
   pub alone : Alone (rowAt s i)
   pub offset-is : rowAt s i .offset ≡ at
-  pub len-low : at + rowAt s i .len ≤ total
-  pub len-high : 64 ≤ rowAt s i .len
-  pub few-slots : get 4 s (at + 16) ≤ 1_000_000_000
-  pub slots-are : rowSlots (rowAt s i) ≡ get 4 s (at + 16)
-  pub len-is : rowAt s i .len ≡ slabLength (get 4 s (at + 16)) (rowAt s i .series)
+  pub sized : Long (get 4 s (at + 16)) (rowAt s i .series) (rowAt s i .len)
+  pub slotted : Slotted (get 4 s (at + 16)) (rowAt s i .interval) (rowAt s i .retention)
   pub head : SlabHead s at (rowAt s i) (get 4 s (at + 16))
+
+-- n slots of interval d and a rest below d
+slots-of : {n d r : ℕ} → Slotted n d r → r / d ≡ n
+slots-of {n} {d} {r} h =
+    let some : 0 < d = omega (arith, h .held, h .rest) in
+    let above : r < suc n * d = omega (arith, h .rest) in
+    omega (arith, le-div-iff-mul-le some .1 (h .held), div-lt-iff-lt-mul some .1 above)
 
 -- n rows, at least one
 pub record JoinedUpTo (s : List ℕ) (n : ℕ) : Type 0 where
@@ -93,42 +108,51 @@ pub record Placed (s : List ℕ) (n e : ℕ) : Type 0 where
 pub placed-none : (s : List ℕ) → Placed s 0 (32 + 64 * rowCount s)
 placed-none s = record { end-is = unfold rowPlace slabsEnd rowsFrom in refl; good = λ i h. absurd (omega arith) }
 
-module _ (s : List ℕ) (i at total : ℕ) (p : Placed s i at) (h : Here s i at total) where
+module _ (s : List ℕ) (i at : ℕ) (p : Placed s i at) (h : Here s i at) where
+  slots-are : rowSlots (rowAt s i) ≡ get 4 s (at + 16)
+  unfolding rowSlots slotCount
+  slots-are = slots-of (h .slotted)
+
   suits : Suits (rowAt s i) (slabOf s (rowAt s i))
   unfolding slabOf slots series interval cursor
   suits =
       let r = rowAt s i in
-      let k = h .len-high in
+      let k = h .sized .head-in in
       let word : (w q : ℕ) → q + w ≤ 64 → get w (part s (r .offset) (r .len)) q ≡ get w s (at + q) = λ w q l. get-part w s (r .offset) (r .len) q (omega arith) ∙ ap (λ (x : ℕ). get w s (x + q)) (h .offset-is) in
       let z : at + 0 ≡ at = omega arith in
       record {
         magic-is = word 4 0 (omega arith) ∙ rw z (h .head .magic-is);
         version-is = word 4 4 (omega arith) ∙ h .head .version-is;
         hash-is = word 8 8 (omega arith) ∙ h .head .hash-is;
-        slots-is = word 4 16 (omega arith) ∙ sym (h .slots-are);
+        slots-is = word 4 16 (omega arith) ∙ sym slots-are;
         series-is = word 4 20 (omega arith) ∙ h .head .series-is;
         interval-is = word 8 24 (omega arith) ∙ h .head .interval-is;
-        cursor-low = rw (word 4 32 (omega arith), h .slots-are) (h .head .cursor-low);
+        cursor-low = rw (word 4 32 (omega arith), slots-are) (h .head .cursor-low);
       }
 
   length-is : rowAt s i .len ≡ rowLength (rowAt s i)
   unfolding rowLength
-  length-is = h .len-is ∙ rw (h .slots-are)
+  length-is = h .sized .length-is ∙ rw slots-are
+
+  some-slot : rowAt s i .interval ≤ get 4 s (at + 16) * rowAt s i .interval
+  some-slot = let one : 1 ≤ get 4 s (at + 16) = omega (arith, h .head .cursor-low) in omega (arith, mul-le-mul-right (rowAt s i .interval) one)
 
   here-good : RowGood s i
-  here-good = record {
-    some-series = h .alone .some-series;
-    some-interval = h .alone .some-interval;
-    interval-low = h .alone .interval-low;
-    retention-low = h .alone .retention-low;
-    kept = h .alone .kept;
-    few-slots = rw (h .slots-are) (h .few-slots);
-    function-low = h .alone .function-low;
-    mark-low = h .alone .mark-low;
-    offset-is = h .offset-is ∙ p .end-is;
-    len-is = length-is;
-    suits = suits;
-  }
+  here-good =
+      let a = h .slotted in
+      record {
+        some-series = h .alone .some-series;
+        some-interval = omega (arith, a .held, a .rest);
+        interval-low = omega (arith, a .low);
+        retention-low = omega (arith, a .rest, a .low);
+        kept = omega (arith, some-slot, a .held);
+        few-slots = rw slots-are (omega (arith, h .sized .few-slots));
+        function-low = h .alone .function-low;
+        mark-low = h .alone .mark-low;
+        offset-is = h .offset-is ∙ p .end-is;
+        len-is = length-is;
+        suits = suits;
+      }
 
   -- one row more
   pub placed-more : Placed s (i + 1) (at + rowAt s i .len)

@@ -1,14 +1,14 @@
 // A quick pass over header, rows and slab headers that only says "all good": then opening's check passes. Where it does not say so, the plain check in document
-// 01's order decides. Each field is loaded once, each row divided once.
+// 01's order decides. So it may leave rare shapes to the plain check: a slab of 2^27 cells or more, and a tier that holds 73 years or more. Below that no
+// product can wrap, and no row is divided.
 ghost use mathlib.Core.Path.{_≡_};
 ghost use mathlib.Core.Bool.{true};
 ghost use Prim.Native.Nat.{_+_, _*_, _<_, _≤_};
 ghost use lib.ListN.{length};
 ghost use Rattle.model.specs.Words.{outcomeNo};
-ghost use Rattle.model.specs.Layout.{slabLength};
 ghost use Rattle.model.specs.Image.{rowCount, openCheck};
 ghost use Rattle.quick.specs.Pass.{Joins, Start};
-ghost use Rattle.quick.specs.Seen.{Head, Alone, SlabHead, Here, JoinedUpTo, Placed};
+ghost use Rattle.quick.specs.Seen.{Head, Alone, Long, Slotted, SlabHead, Here, JoinedUpTo, Placed};
 
 // The header.
 fn head_good(s: &[u8]) -> bool
@@ -51,18 +51,6 @@ fn row_good(r: model::Row) -> bool
     ensures { λ b. ⌜ (b ≡ true → Alone r) ⌝ }
 {
     if r.series == 0 {
-        return false;
-    }
-    if r.interval == 0 {
-        return false;
-    }
-    if r.interval >= 0x8000_0000_0000_0000 {
-        return false;
-    }
-    if r.retention >= 0x8000_0000_0000_0000 {
-        return false;
-    }
-    if r.retention < r.interval {
         return false;
     }
     if r.function > 6 {
@@ -126,46 +114,55 @@ fn slab_good(s: &[u8], at: usize, r: model::Row, n: u64) -> bool
     field::get_u32(s, at + 32) < n
 }
 
-// A slab with n slots and m series is `len` long.
+// A slab with n slots and m series is `len` long, and has fewer than 2^27 cells.
 fn length_good(n: u64, m: u64, len: u64) -> bool
-    requires { ⌜ (n ≤ 1000000000) × (m < 4294967296) ⌝ }
-    ensures { λ b. ⌜ (b ≡ true → len ≡ slabLength n m) ⌝ }
+    requires { ⌜ (n < 4294967296) × (m < 4294967296) ⌝ }
+    ensures { λ b. ⌜ (b ≡ true → Long n m len) ⌝ }
 {
     let cells = n * (m + 1);
-    if cells > 0x20_0000_0000 {
+    if cells >= 0x800_0000 {
         return false;
     }
     len == 64 + 4 * m + 8 * cells
 }
 
-// Row i, whose slab stands at `at` in an image that is `total` long.
-fn place_good(s: &[u8], i: usize, at: usize, total: usize) -> bool
-    requires { ⌜ 32 + 64 * i + 64 ≤ length (now s) ⌝ }
-    requires { ⌜ (at ≤ total) × (total ≤ length (now s)) ⌝ }
-    ensures { λ b. ⌜ (b ≡ true → Here (now (s .entry)) i at total) ⌝ }
+// n slots of an interval are what a retention has, and hold less than 73 years.
+fn slots_good(n: u64, interval: u64, retention: u64) -> bool
+    requires { ⌜ (0 < n) × (n < 134217728) ⌝ }
+    ensures { λ b. ⌜ (b ≡ true → Slotted n interval retention) ⌝ }
 {
+    if (interval / 0x800_0000) * n >= 0x4_0000_0000 {
+        return false;
+    }
+    let held = n * interval;
+    if retention < held {
+        return false;
+    }
+    retention - held < interval
+}
+
+// Row i, whose slab stands at `at`; `last` is the last place where a slab's header fits.
+fn place_good(s: &[u8], i: usize, at: usize, last: usize) -> bool
+    requires { ⌜ 32 + 64 * i + 64 ≤ length (now s) ⌝ }
+    requires { ⌜ last + 64 ≤ length (now s) ⌝ }
+    ensures { λ b. ⌜ (b ≡ true → (at ≤ last) × Here (now (s .entry)) i at) ⌝ }
+{
+    if at > last {
+        return false;
+    }
     let r = rows::row_at(s, i);
+    if r.offset != (at as u64) {
+        return false;
+    }
     let alone = row_good(r);
     if alone {
-        if r.offset != (at as u64) {
-            return false;
-        }
-        if r.len > ((total - at) as u64) {
-            return false;
-        }
-        if r.len < 64 {
-            return false;
-        }
         let n = field::get_u32(s, at + 16);
-        if n > 1000000000 {
-            return false;
-        }
-        if r.retention / r.interval != n {
-            return false;
-        }
         let sized = length_good(n, r.series as u64, r.len);
         if sized {
-            return slab_good(s, at, r, n);
+            let headed = slab_good(s, at, r, n);
+            if headed {
+                return slots_good(n, r.interval, r.retention);
+            }
         }
     }
     false
@@ -199,13 +196,14 @@ fn rows_join(s: &[u8], n: usize) -> bool
 
 // The n rows' slabs stand one behind the other, up to `total`.
 fn slabs_good(s: &[u8], n: usize, total: usize) -> bool
-    requires { ⌜ (n ≤ 32) × (n ≡ rowCount (now s)) × (32 + 64 * n ≤ total) × (total ≤ length (now s)) ⌝ }
+    requires { ⌜ (n ≤ 32) × (n ≡ rowCount (now s)) × (96 ≤ total) × (32 + 64 * n ≤ length (now s)) × (total ≤ length (now s)) × (total ≤ 1099511627776) ⌝ }
     ensures { λ b. ⌜ (b ≡ true → Placed (now (s .entry)) n total) ⌝ }
 {
+    let last = total - 64;
     let mut at = 32 + 64 * n;
     let mut i = 0;
     while i < n {
-        let here = place_good(s, i, at, total);
+        let here = place_good(s, i, at, last);
         if here {
             let r = rows::row_at(s, i);
             at += r.len as usize;

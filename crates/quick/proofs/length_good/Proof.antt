@@ -1,11 +1,10 @@
 -- `quick::length_good` meets its contract: slots and series are small enough that the length can be worked out. Assumes nothing.
 use mathlib.Core.Bool.{false≢true}
-use Prim.Native.Nat.{_+_}
+use Prim.Native.Nat.{_+_, _≤_}
 use native.Mathlib.Nat.{mul-le-mul-right}
 use native.Mathlib.Omega.{arith}
-use mathlib.Core.Path.{_∙_}
-use Rattle.laws.specs.Tests.{le-is, lt-is, eq-is}
-use Rattle.quick.proofs.Laws.{length-is}
+use Rattle.laws.specs.Tests.{eq-is}
+use Rattle.quick.proofs.Laws.{long-is}
 use borrow.Author.Needs.{needs}
 use Rattle.quick.proofs.length_good.Statement.{statement}
 use Rattle.quick.proofs.length_good.Tie as tie
@@ -14,7 +13,7 @@ add-cells : tie.Need-add-cells
 add-cells c = search needs
 
 mul-cells : tie.Need-mul-cells
-mul-cells c = omega (arith, mul-le-mul-right (c .args .m + 1) (c .pre .0))
+mul-cells c = let up : c .args .n ≤ 4_294_967_295 = omega (arith, c .pre .0) in omega (arith, mul-le-mul-right (c .args .m + 1) up, c .pre .1)
 
 returns : tie.Need-returns
 returns c = λ e. absurd (false≢true e)
@@ -34,7 +33,7 @@ add-result-2 c = search needs
 returns-2 : tie.Need-returns-2
 returns-2 c =
     let start = c .before in
-    λ e. eq-is _ _ e ∙ length-is (start .args .n) (start .args .m)
+    λ e. long-is (start .args .n) (start .args .m) (start .pre .1) (c .if1 .left) (eq-is _ _ e)
 
 pub length-good-spec : {M : Type 1} → statement M
 length-good-spec =
