@@ -216,7 +216,7 @@ fn slabs_good(s: &[u8], n: usize, total: usize) -> bool
 }
 
 // All good: opening's check passes.
-fn is_good(s: &[u8]) -> bool
+pub fn is_good(s: &[u8]) -> bool
     ensures { λ b. ⌜ (b ≡ true → openCheck (now (s .entry)) ≡ 0) ⌝ }
 {
     let headed = head_good(s);

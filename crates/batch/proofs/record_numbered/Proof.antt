@@ -1,34 +1,22 @@
--- `batch::record_numbered` meets its contract: opening's refusal, or what `batch_opened` does. Assumes nothing.
-use mathlib.Core.Path.{_≡_, sym, ap, _∙_}
-use Rattle.model.specs.Words.{outcomeNo}
-use Rattle.model.specs.Record.{entries}
-use Rattle.bits.specs.One.{lentAt}
-use Rattle.record.specs.Numbers.{some-number}
-use Rattle.batch.proofs.Laws.{not-opened}
+-- `batch::record_numbered` meets its contract: where all is good the batch goes on at once, else the plain check decides. Assumes nothing.
 use borrow.Author.Needs.{needs}
 use Rattle.batch.proofs.record_numbered.Statement.{statement}
 use Rattle.batch.proofs.record_numbered.Tie as tie
 
-check-requires : tie.Need-check-requires
-check-requires c κs = search needs
+is-good-requires : tie.Need-is-good-requires
+is-good-requires c κs = search needs
 
-enum-told : tie.Need-enum-told
-enum-told c = search needs
-
-enum-told-2 : tie.Need-enum-told-2
-enum-told-2 c = search needs
+batch-opened-requires : tie.Need-batch-opened-requires
+batch-opened-requires c κs = c .before .before .is-good .ensures (c .before .if1 .taken)
 
 same-length : tie.Need-same-length
 same-length c = search needs
 
 returns : tie.Need-returns
-returns c =
-    let start = c .before .before .before .before .before .before in
-    let e = c .enum-told2 .given .1 in
-    not-opened (lentAt (start .args .image .now) (start .args .flags)) (start .args .stamp) (entries (start .args .batch .now)) (outcomeNo (c .before .before .check .result)) (c .before .before .check .ensures) (λ z. some-number (c .enum-told2 .given .0 .0) (sym (ap outcomeNo e) ∙ z))
+returns c = search needs
 
-batch-opened-requires : tie.Need-batch-opened-requires
-batch-opened-requires c κs = sym (c .before .before .before .check .ensures) ∙ ap outcomeNo (c .before .enum-told .given .1)
+record-plainly-requires : tie.Need-record-plainly-requires
+record-plainly-requires c κs = search needs
 
 same-length-2 : tie.Need-same-length-2
 same-length-2 c = search needs
@@ -40,11 +28,10 @@ pub record-numbered-spec : {M : Type 1} → statement M
 record-numbered-spec =
     tie.close
     (tie.spec
-    check-requires
-    enum-told
-    enum-told-2
+    is-good-requires
+    batch-opened-requires
     same-length
     returns
-    batch-opened-requires
+    record-plainly-requires
     same-length-2
     returns-2)

@@ -1,0 +1,50 @@
+-- `batch::record_plainly` meets its contract: opening's refusal, or what `batch_opened` does. Assumes nothing.
+use mathlib.Core.Path.{_≡_, sym, ap, _∙_}
+use Rattle.model.specs.Words.{outcomeNo}
+use Rattle.model.specs.Record.{entries}
+use Rattle.bits.specs.One.{lentAt}
+use Rattle.record.specs.Numbers.{some-number}
+use Rattle.batch.proofs.Laws.{not-opened}
+use borrow.Author.Needs.{needs}
+use Rattle.batch.proofs.record_plainly.Statement.{statement}
+use Rattle.batch.proofs.record_plainly.Tie as tie
+
+check-image-requires : tie.Need-check-image-requires
+check-image-requires c κs = search needs
+
+enum-told : tie.Need-enum-told
+enum-told c = search needs
+
+enum-told-2 : tie.Need-enum-told-2
+enum-told-2 c = search needs
+
+same-length : tie.Need-same-length
+same-length c = search needs
+
+returns : tie.Need-returns
+returns c =
+    let start = c .before .before .before .before .before .before in
+    let e = c .enum-told2 .given .1 in
+    not-opened (lentAt (start .args .image .now) (start .args .flags)) (start .args .stamp) (entries (start .args .batch .now)) (outcomeNo (c .before .before .check-image .result)) (c .before .before .check-image .ensures) (λ z. some-number (c .enum-told2 .given .0 .0) (sym (ap outcomeNo e) ∙ z))
+
+batch-opened-requires : tie.Need-batch-opened-requires
+batch-opened-requires c κs = sym (c .before .before .before .check-image .ensures) ∙ ap outcomeNo (c .before .enum-told .given .1)
+
+same-length-2 : tie.Need-same-length-2
+same-length-2 c = search needs
+
+returns-2 : tie.Need-returns-2
+returns-2 c = search needs
+
+pub record-plainly-spec : {M : Type 1} → statement M
+record-plainly-spec =
+    tie.close
+    (tie.spec
+    check-image-requires
+    enum-told
+    enum-told-2
+    same-length
+    returns
+    batch-opened-requires
+    same-length-2
+    returns-2)
