@@ -1,5 +1,6 @@
 -- `schedule::main` is safe and ends: a tier a turn. Assumes nothing.
 use Prim.Native.Nat.{_-_, _≤_}
+use native.Mathlib.Omega.{arith}
 use borrow.Author.Needs.{needs}
 use Rattle.schedule.proofs.main.Statement.{statement}
 use Rattle.schedule.proofs.main.Tie as tie
@@ -11,61 +12,61 @@ abbrev μ-loop : tie.MeasureT-loop
 μ-loop image flags tier₀ tier = 3 - tier
 
 slice-aggregate-fresh : tie.Need-slice-aggregate-fresh Inv-loop μ-loop
-slice-aggregate-fresh c = search needs
+slice-aggregate-fresh c = omega arith
 
 fresh-requires : tie.Need-fresh-requires Inv-loop μ-loop
-fresh-requires c κs = search needs
+fresh-requires c κs = tt
 
 slice-aggregate-hour : tie.Need-slice-aggregate-hour Inv-loop μ-loop
-slice-aggregate-hour c = search needs
+slice-aggregate-hour c = omega arith
 
 hour-requires : tie.Need-hour-requires Inv-loop μ-loop
-hour-requires c κs = search needs
+hour-requires c κs = omega arith
 
 slice-aggregate-run : tie.Need-slice-aggregate-run Inv-loop μ-loop
-slice-aggregate-run c = search needs
+slice-aggregate-run c = omega arith
 
 run-requires : tie.Need-run-requires Inv-loop μ-loop
-run-requires c κs = search needs
+run-requires c κs = tt
 
 slice-aggregate-hour-2 : tie.Need-slice-aggregate-hour-2 Inv-loop μ-loop
-slice-aggregate-hour-2 c = search needs
+slice-aggregate-hour-2 c = omega arith
 
 hour-requires-2 : tie.Need-hour-requires-2 Inv-loop μ-loop
-hour-requires-2 c κs = search needs
+hour-requires-2 c κs = omega arith
 
 slice-aggregate-run-2 : tie.Need-slice-aggregate-run-2 Inv-loop μ-loop
-slice-aggregate-run-2 c = search needs
+slice-aggregate-run-2 c = omega arith
 
 run-requires-2 : tie.Need-run-requires-2 Inv-loop μ-loop
-run-requires-2 c κs = search needs
+run-requires-2 c κs = tt
 
 loop-holds : tie.Need-loop-holds Inv-loop μ-loop
-loop-holds c = search needs
+loop-holds c = omega arith
 
 slice-aggregate-show : tie.Need-slice-aggregate-show Inv-loop μ-loop
-slice-aggregate-show c = search needs
+slice-aggregate-show c = omega arith
 
 show-requires : tie.Need-show-requires Inv-loop μ-loop
-show-requires c κs = search needs
+show-requires c κs = tt
 
 slice-aggregate-show-2 : tie.Need-slice-aggregate-show-2 Inv-loop μ-loop
-slice-aggregate-show-2 c = search needs
+slice-aggregate-show-2 c = omega arith
 
 show-requires-2 : tie.Need-show-requires-2 Inv-loop μ-loop
-show-requires-2 c κs = search needs
+show-requires-2 c κs = tt
 
 add-tier : tie.Need-add-tier Inv-loop μ-loop
-add-tier c = search needs
+add-tier c = omega arith
 
 loop-less : tie.Need-loop-less Inv-loop μ-loop
-loop-less c = search needs
+loop-less c = omega arith
 
 loop-again : tie.Need-loop-again Inv-loop μ-loop
-loop-again c = search needs
+loop-again c = omega arith
 
 returns : tie.Need-returns Inv-loop μ-loop
-returns c = search needs
+returns c = tt
 
 pub main-spec : {M : Type 1} → statement M
 main-spec =

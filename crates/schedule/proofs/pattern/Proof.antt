@@ -1,5 +1,6 @@
 -- `schedule::pattern` is safe and ends: the exponent goes down once a turn. Assumes nothing.
 use Prim.Native.Nat.{_+_, _-_, _≤_}
+use native.Mathlib.Omega.{arith}
 use borrow.Author.Needs.{needs}
 use Rattle.schedule.proofs.pattern.Statement.{statement}
 use Rattle.schedule.proofs.pattern.Tie as tie
@@ -11,40 +12,40 @@ abbrev μ-loop : tie.MeasureT-loop
 μ-loop x y₀ e₀ k₀ y e k = 52 - k
 
 returns : tie.Need-returns Inv-loop μ-loop
-returns c = search needs
+returns c = tt
 
 loop-holds : tie.Need-loop-holds Inv-loop μ-loop
-loop-holds c = search needs
+loop-holds c = (omega arith, omega arith, omega arith)
 
 add-k : tie.Need-add-k Inv-loop μ-loop
-add-k c = search needs
+add-k c = omega arith
 
 loop-less : tie.Need-loop-less Inv-loop μ-loop
-loop-less c = search needs
+loop-less c = omega arith
 
 loop-again : tie.Need-loop-again Inv-loop μ-loop
-loop-again c = search needs
+loop-again c = (omega arith, omega arith, omega arith)
 
 mul-y : tie.Need-mul-y Inv-loop μ-loop
-mul-y c = search needs
+mul-y c = omega arith
 
 sub-e : tie.Need-sub-e Inv-loop μ-loop
-sub-e c = search needs
+sub-e c = omega arith
 
 loop-less-2 : tie.Need-loop-less-2 Inv-loop μ-loop
-loop-less-2 c = search needs
+loop-less-2 c = omega arith
 
 loop-again-2 : tie.Need-loop-again-2 Inv-loop μ-loop
-loop-again-2 c = search needs
+loop-again-2 c = (omega arith, omega arith, omega arith)
 
 mul-result : tie.Need-mul-result Inv-loop μ-loop
-mul-result c = search needs
+mul-result c = omega arith
 
 add-result : tie.Need-add-result Inv-loop μ-loop
-add-result c = search needs
+add-result c = omega arith
 
 returns-2 : tie.Need-returns-2 Inv-loop μ-loop
-returns-2 c = search needs
+returns-2 c = tt
 
 pub pattern-spec : {M : Type 1} → statement M
 pattern-spec =
