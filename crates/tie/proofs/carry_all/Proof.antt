@@ -1,24 +1,23 @@
 -- `tie::carry_all` meets its contract: what each call leaves is lent to the next. Assumes nothing.
-use mathlib.Core.Path.{ap}
+use mathlib.Core.Path.{ap, _∙_}
 use Rattle.model.specs.Store.{Done}
 use Rattle.lent.specs.Parts.{lentOf}
 use Rattle.calls.specs.Encoded.{callsIn}
 use Rattle.tie.proofs.Laws.{carried}
-use borrow.Author.Needs.{needs}
 use Rattle.tie.proofs.carry_all.Statement.{statement}
 use Rattle.tie.proofs.carry_all.Tie as tie
 
 carry-out-requires : tie.Need-carry-out-requires
-carry-out-requires c κs = search needs
+carry-out-requires c κs = tt
 
 consolidate-requires : tie.Need-consolidate-requires
-consolidate-requires c κs = search needs
+consolidate-requires c κs = tt
 
 carry-out-requires-2 : tie.Need-carry-out-requires-2
-carry-out-requires-2 c κs = search needs
+carry-out-requires-2 c κs = tt
 
 same-length : tie.Need-same-length
-same-length c = search needs
+same-length c = c .before .before .carry-out2 .kept .0 ∙ c .before .before .before .before .before .before .before .consolidate .kept .0 ∙ c .before .before .before .before .before .before .before .before .before .before .before .carry-out .kept .0
 
 returns : tie.Need-returns
 returns c =

@@ -1,26 +1,26 @@
 -- `tie::demand` meets its contract, by what each of the calls ensures and the theorem. Assumes nothing.
+use mathlib.Core.Path.{_∙_}
 use Rattle.tie.proofs.Laws.{demanded}
-use borrow.Author.Needs.{needs}
 use Rattle.tie.proofs.demand.Statement.{statement}
 use Rattle.tie.proofs.demand.Tie as tie
 
 create-requires : tie.Need-create-requires
-create-requires c κs = search needs
+create-requires c κs = tt
 
 carry-all-requires : tie.Need-carry-all-requires
-carry-all-requires c κs = search needs
+carry-all-requires c κs = tt
 
 query-requires : tie.Need-query-requires
-query-requires c κs = search needs
+query-requires c κs = tt
 
 hand-answer-requires : tie.Need-hand-answer-requires
-hand-answer-requires c κs = search needs
+hand-answer-requires c κs = tt
 
 same-length : tie.Need-same-length
-same-length c = search needs
+same-length c = c .before .before .before .before .before .before .before .before .before .carry-all .kept .0 ∙ c .before .before .before .before .before .before .before .before .before .before .before .before .before .before .create .kept .1 .0
 
 same-length-2 : tie.Need-same-length-2
-same-length-2 c = search needs
+same-length-2 c = c .before .before .hand-answer .kept .1 .1 .0
 
 returns : tie.Need-returns
 returns c =
