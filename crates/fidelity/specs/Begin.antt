@@ -1,5 +1,5 @@
--- The store as creation leaves it, before the first call: it belongs to the set-up of its plan, every ring took nothing, and there is no mark. Assumes
--- nothing.
+-- The store as creation leaves it, before the first call: it belongs to the set-up of its plan, every ring took nothing, and there is no mark. The
+-- induction over the calls starts here. Assumes nothing.
 use Prim.Native.Nat.{ℕ, _*_, _^_, _<_}
 use native.Mathlib.Nat.{zero-mul}
 use native.Mathlib.Omega.{arith}

@@ -1,5 +1,5 @@
--- The tiers of a suited plan: each interval is a whole number of the finer one's, the coarsest a whole number of each, and every ring spans one coarsest
--- interval. Assumes nothing.
+-- The tiers of a plan as supposed: each interval is a whole number of the finer one's, the coarsest a whole number of each, and every ring spans one coarsest
+-- interval. So stamps, ticks and window numbers of all tiers go over into each other. Assumes nothing.
 use Prim.Native.Nat.{ℕ, zero, suc, _+_, _-_, _*_, _/_, _≤_, _<_}
 use native.Mathlib.Nat.{zero-mul, mul-assoc, mul-pos, mul-div-cancel, mul-le-mul-right, le-of-mul-le-mul-right}
 use native.Mathlib.Omega.{arith}

@@ -1,4 +1,4 @@
--- The set-up that a suited plan and the supposed samples make: its tiers are the plan's, its values those of the samples and their averages. Every part that
+-- The set-up that the plan and the samples make, as supposed: its tiers are the plan's, its values those of the samples and their averages. Every part that
 -- the theory of runs asks for holds of it. Assumes nothing.
 use Prim.Native.Nat.{ℕ, suc, _+_, _-_, _*_, _^_, _≤_, _<_}
 use native.Mathlib.Nat.{mul-assoc, mul-le-mul-right}

@@ -13,8 +13,9 @@ use lib.Ieee.Bits.{is-true}
 use Rattle.model.specs.declared.Row.{Row}
 use Rattle.model.specs.Image.{schemas, rowCount, rowAt, rowsFrom, rows, rowSlots, every, createCheck}
 use Rattle.model.specs.Demand.{ratioOk, averaging, lastInterval, spanning, suited, Sample, events, firstOf, ascending, all, isOffset, gapless, ticks, scheduled, supposed, used, Situation, finest, coarsest, afterRun, history, samples}
-use Rattle.laws.specs.Tests.{and-left, and-right, split3, le-is, eq-is}
+use Rattle.laws.specs.Tests.{split3, le-is, eq-is}
 use Rattle.frame.specs.Rows.{every-at}
+use Rattle.samples.specs.Lists.{all-three}
 use Rattle.fidelity.specs.Stronger.{Planned, Supposition}
 
 -- ---- the plan, row by row
@@ -93,15 +94,6 @@ planned p buf accepted one h =
 
 -- ---- the samples
 
-all-three : (f g h : Sample → Bool) (xs : List Sample) → all (λ x. f x && g x && h x) xs ≡ true → (all f xs ≡ true) × (all g xs ≡ true) × (all h xs ≡ true)
-unfolding all
-all-three f g h [] e = (refl, refl, refl)
-all-three f g h (x ∷ xs) e =
-    let r = and-left (f x && g x && h x) (all (λ x. f x && g x && h x) xs) e in
-    let u = split3 (f x) (g x) (h x) r in
-    let v = all-three f g h xs (and-right (f x && g x && h x) (all (λ x. f x && g x && h x) xs) e) in
-    (rw (u .0, v .0), rw (u .1, v .1), rw (u .2, v .2))
-
 -- the statement's supposition is more than enough
 pub clauses : (s : Situation) → createCheck (s .plan) (s .buf) ≡ 0 → schemas (s .plan) ≡ 1 → T (suited (rows (s .plan)))
     → T (supposed (finest s) (coarsest s) (history s)) → events (afterRun s) (s .between) ≡ [] → T (used (s .column) (samples s)) → s .tier < rowCount (s .plan)
@@ -117,7 +109,7 @@ clauses s accepted one plan h quiet column tier =
     let first = eqb (firstOf xs % coarsest s) 0 in
     let u = split3 (ltb 0 (firstOf xs) && first && ascending 0 xs) (all (λ x. f x && g x && e x) xs) (scheduled d (coarsest s) 0 false es) (is-true (supposed d (coarsest s) es) h) in
     let v = split3 (ltb 0 (firstOf xs)) first (ascending 0 xs) (u .0) in
-    let w = all-three f g e xs (u .1) in
+    let w = split3 (all f xs) (all g xs) (all e xs) (sym (all-three f g e xs) ∙ u .1) in
     record {
       plan-is = planned (s .plan) (s .buf) accepted one (is-true (suited (rows (s .plan))) plan);
       first-whole = eq-is (firstOf xs % coarsest s) 0 (v .1);

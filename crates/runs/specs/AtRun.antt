@@ -1,5 +1,5 @@
 -- A run between two calls: the samples so far are whole coarsest intervals, every used column has all their ticks, so the run is not refused and leaves every
--- tier and mark with as many intervals. Assumes nothing.
+-- tier and mark with as many intervals. It is the step over a run in the induction over the calls. Assumes nothing.
 use Prim.Native.Nat.{ℕ, suc, _+_, _-_, _*_, _%_, _<_}
 use native.Mathlib.Nat.{mul-le-mul-right}
 use native.Mathlib.Omega.{arith}

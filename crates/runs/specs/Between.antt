@@ -1,5 +1,5 @@
 -- The store between two calls, as the set-up has it: what it holds of the samples so far and of the last run, and that the events to come are on schedule.
--- Assumes nothing.
+-- It is what the induction over the calls keeps. Assumes nothing.
 use Prim.Native.Nat.{ℕ, suc, _*_, _≤_, _<_}
 use native.Mathlib.Omega.{arith}
 use native.Mathlib.Decide.{decLt}

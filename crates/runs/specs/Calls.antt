@@ -1,5 +1,6 @@
 -- A list of calls, refused ones and queries among them: from a store that holds the samples so far to one that holds theirs too. Accepted recordings write
--- to the finest ring, runs are not refused, everything else leaves the store as it is. Assumes nothing.
+-- to the finest ring, runs are not refused, everything else leaves the store as it is. It is the induction over the calls, for any set-up. Assumes
+-- nothing.
 use Prim.Native.Nat.{ℕ, zero, suc, _^_, _<_}
 use native.Mathlib.Omega.{arith}
 use mathlib.Core.Path.{_≡_, refl, sym, ap, _∙_}

@@ -1,4 +1,5 @@
--- Samples of one stamp, as a record or a batch brings them: all are at the tick reached so far, or all at the next. Assumes nothing.
+-- Samples of one stamp, as a record or a batch brings them: all are at the tick reached so far, or all at the next. So one write
+-- to the ring takes them. Assumes nothing.
 use Prim.Native.Nat.{ℕ, suc, _+_, _*_, _<_}
 use native.Mathlib.Omega.{arith}
 use mathlib.Core.Path.{_≡_, refl, sym, ap, _∙_, subst}

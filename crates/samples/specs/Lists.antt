@@ -1,10 +1,11 @@
--- Lists of samples: how many there are of a kind, the order of their stamps, the first and the last, and the value at a column and stamp. Assumes nothing.
+-- Lists of samples: how many there are of a kind, the order of their stamps, the first and the last, and the value at a column and stamp. What is said of
+-- ticks, schedules and windows is counted by these. Assumes nothing.
 use Prim.Native.Nat.{ℕ, suc, _+_, _*_, _/_, _%_, _≤_, _<_}
 use native.Mathlib.Nat.{zero-add, mod-add-div'}
 use native.Mathlib.Omega.{arith}
 use mathlib.Core.Path.{_≡_, refl, sym, ap, _∙_}
 use mathlib.Core.Logic.{_≢_}
-use mathlib.Core.Bool.{Bool, true, false, _&&_, cond}
+use mathlib.Core.Bool.{Bool, true, false, _&&_, cond, and-false}
 use mathlib.Core.List.{List, [], _∷_, _++_, map}
 use lib.Dec.{leb, ltb, eqb}
 use Rattle.model.specs.Demand.{Sample, Event, took, ran, samplesIn, firstOf, lastOf, ascending, all, count, isAt, used, isOffset}
@@ -50,6 +51,19 @@ pub all-at : (f : Sample → Bool) (ys : List Sample) (x : Sample) (zs : List Sa
 unfolding all
 all-at f [] x zs h = and-left (f x) (all f zs) h
 all-at f (y ∷ ys) x zs h = all-at f ys x zs (and-right (f y) (all f (ys ++ x ∷ zs)) h)
+
+-- three tests of all samples
+pub all-three : (f g h : Sample → Bool) (xs : List Sample) → all (λ x. f x && g x && h x) xs ≡ all f xs && all g xs && all h xs
+unfolding all
+all-three f g h [] = refl
+all-three f g h (x ∷ xs) = rw (all-three f g h xs) (swap (f x) (g x) (h x) (all f xs) (all g xs) (all h xs))
+  where
+    swap : (a b c A B C : Bool) → a && b && c && (A && B && C) ≡ (a && A) && (b && B) && (c && C)
+    swap true true true A B C = refl
+    swap true true false A B C = sym (and-false (A && B))
+    swap true false c true B C = refl
+    swap true false c false B C = refl
+    swap false b c A B C = refl
 
 -- ---- used columns
 

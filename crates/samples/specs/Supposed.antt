@@ -1,5 +1,5 @@
--- What the supposition says of the samples: they are steady (Ticks), and their ticks are whole coarsest intervals where the last event is a run. Assumes
--- nothing.
+-- What the supposition says of the samples: they are steady (Ticks), and their ticks are whole coarsest intervals where the last event is a run. From
+-- here on the theorem speaks of ticks and no longer of tests over lists. Assumes nothing.
 use Prim.Native.Nat.{ℕ, zero, suc, _+_, _-_, _*_, _/_, _%_, _≤_, _<_}
 use native.Mathlib.Nat.{zero-mul, mul-pos, mul-div-cancel, le-of-mul-le-mul-right, lt-of-mul-lt-mul-right}
 use native.Mathlib.Omega.{arith}

@@ -1,8 +1,8 @@
 -- The theorem's supposition is not stronger than it must be: for each of its clauses a list of calls that breaks that clause alone, and where the promise
 -- fails; and a plan that breaks one clause of `suited`, likewise. (A first stamp of 0 is no case: no sample has it.) By computation. Assumes nothing.
 use Prim.Native.Nat.{ℕ, zero, suc, _%_}
-use mathlib.Core.Path.{_≡_, refl, sym}
-use mathlib.Core.Bool.{Bool, true, false, _&&_, and-false}
+use mathlib.Core.Path.{_≡_, refl}
+use mathlib.Core.Bool.{Bool, true, false, _&&_}
 use mathlib.Core.List.{List, [], _∷_, map}
 use lib.Dec.{ltb, eqb}
 use lib.ListN.{replicate, take}
@@ -12,6 +12,7 @@ use Rattle.model.specs.Store.{Call, recordCall, consolidateCall}
 use Rattle.model.specs.Demand.{Demand-defs, Sample, samplesIn, firstOf, ascending, all, isOffset, gapless, ticks, scheduled, supposed, each, suited, Situation, finest, coarsest, history, samples, answers, tierInterval, due}
 use Rattle.model.specs.Cases.{Cases-defs, tier, plan, num}
 use Rattle.model.specs.Instance.{both}
+use Rattle.samples.specs.Lists.{all-three}
 
 -- the clauses of `supposed` behind the first
 unfoldable pub clauses : Situation → List Bool
@@ -27,18 +28,6 @@ conj [] = true
 conj (b ∷ bs) = b && conj bs
 
 -- ---- they are the whole of it
-
-all-three : (f g h : Sample → Bool) (xs : List Sample) → all (λ x. f x && g x && h x) xs ≡ all f xs && all g xs && all h xs
-unfolding all
-all-three f g h [] = refl
-all-three f g h (x ∷ xs) = rw (all-three f g h xs) (swap (f x) (g x) (h x) (all f xs) (all g xs) (all h xs))
-  where
-    swap : (a b c A B C : Bool) → a && b && c && (A && B && C) ≡ (a && A) && (b && B) && (c && C)
-    swap true true true A B C = refl
-    swap true true false A B C = sym (and-false (A && B))
-    swap true false c true B C = refl
-    swap true false c false B C = refl
-    swap false b c A B C = refl
 
 pub supposed-is : (s : Situation) → supposed (finest s) (coarsest s) (history s) ≡ ltb 0 (firstOf (samplesIn (history s))) && conj (clauses s)
 unfolding supposed clauses conj
