@@ -1,3 +1,2 @@
 pub mod Encode
-pub mod Stored
 pub mod Kept

@@ -3,85 +3,18 @@
 // for every plan, slice, flags and calls in bytes; nothing is required. A point takes two numbers of `out`: stamp, then value.
 ghost use mathlib.Core.Path.{_≡_};
 ghost use mathlib.Core.List.{_++_, _∷_, []};
-ghost use Prim.Native.Nat.{_/_, min};
-ghost use lib.ListN.{length, take};
-ghost use Rattle.model.specs.Read.{pointsFrom};
-ghost use Rattle.model.specs.Store.{after, queriedReply, consolidateCall};
-ghost use Rattle.model.specs.Demand.{handedOut};
+ghost use Prim.Native.Nat.{_/_};
+ghost use lib.ListN.{length};
+ghost use Rattle.model.specs.Store.{after, consolidateCall};
 ghost use Rattle.lent.specs.Parts.{lentOf};
 ghost use Rattle.calls.specs.Encoded.{callsIn};
-ghost use Rattle.tie.specs.Stored.{stored};
+ghost use Rattle.points.specs.Stored.{stored};
 ghost use Rattle.tie.specs.Kept.{situation, Kept};
 
 // The flags as the last call left them, and how many points were written out.
 pub struct Demanded {
     pub flags: model::Flags,
     pub count: usize,
-}
-
-// Steps a reader from a place to its end, or until `out` is full. Answers how many points it handed out.
-fn hand_out(
-    slab: &[u8],
-    column: u32,
-    start: u64,
-    end: u64,
-    from: model::Place,
-    out: &mut [u64],
-) -> usize
-    ensures { λ r. ⌜ stored (now (out .exit)) r ≡ take (length (now (out .entry)) / 2) (pointsFrom (from .left) (now (slab .entry)) column start end from) ⌝ }
-{
-    let room = out.len() / 2;
-    let mut place = from;
-    let mut left = from.left;
-    let mut n: usize = 0;
-    while 0 < left {
-        if room <= n {
-            return n;
-        }
-        let stepped = reader::step(slab, column, start, end, place);
-        let next = stepped.next;
-        let model::Next::Handed(point) = next else {
-            return n;
-        };
-        out[2 * n] = point.stamp;
-        out[2 * n + 1] = point.value;
-        let later = stepped.place;
-        place = later;
-        n += 1;
-        left -= 1;
-    }
-    n
-}
-
-// The smaller one.
-fn least(a: usize, b: usize) -> usize
-    ensures { λ r. ⌜ r ≡ min a b ⌝ }
-{
-    if a < b {
-        return a;
-    }
-    b
-}
-
-// Writes out the points of a query's answer on the image that it was asked of. Answers how many.
-fn hand_answer(image: &[u8], queried: model::Queried, out: &mut [u64]) -> usize
-    ensures { λ r. ⌜ stored (now (out .exit)) r ≡ take (length (now (out .entry)) / 2) (handedOut (queriedReply (now (image .entry)) queried)) ⌝ }
-{
-    let model::Queried::Answer(found) = queried else {
-        return 0;
-    };
-    let len = image.len();
-    let to = least(found.to, len);
-    let from = least(found.from, to);
-    let place = found.place;
-    hand_out(
-        &image[from..to],
-        found.column,
-        found.start,
-        found.end,
-        place,
-        out,
-    )
 }
 
 // Carries out the calls before a run, the run, and the calls between it and the query. Answers the flags.
@@ -115,7 +48,7 @@ pub fn demand(
         column: column,
     };
     let queried = query::query(image, last, handle, tier, 0, 18446744073709551615);
-    let count = hand_answer(image, queried, out);
+    let count = points::hand_answer(image, queried, out);
     Demanded {
         flags: last,
         count: count,

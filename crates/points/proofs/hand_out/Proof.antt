@@ -1,14 +1,14 @@
--- `tie::hand_out` meets its contract. The loop's invariant: the points written out, then those that the reader still hands out, are all of its points. Assumes
+-- `points::hand_out` meets its contract. The loop's invariant: the points written out, then those that the reader still hands out, are all of its points. Assumes
 -- nothing.
 use Prim.Native.Nat.{_/_, _≤_}
 use native.Mathlib.Omega.{arith}
 use mathlib.Core.Path.{_≡_, refl}
 use lib.ListN.{length, length-set}
 use Rattle.model.specs.Read.{pointsFrom}
-use Rattle.tie.proofs.Laws.{storedAt, Storing, starts, full, turn, stops, none-left}
+use Rattle.points.proofs.Laws.{storedAt, Storing, starts, full, turn, stops, none-left}
 use borrow.Author.Needs.{needs}
-use Rattle.tie.proofs.hand_out.Statement.{statement}
-use Rattle.tie.proofs.hand_out.Tie as tie
+use Rattle.points.proofs.hand_out.Statement.{statement}
+use Rattle.points.proofs.hand_out.Tie as tie
 
 abbrev Inv-loop : tie.InvT-loop
 Inv-loop slab column start end out₀ room place₀ left₀ n₀ out place left n = (length out ≡ length out₀) × (room ≡ length out₀ / 2) × (n ≤ room) × Storing (pointsFrom left₀ slab column start end place₀) out n (pointsFrom left slab column start end place)

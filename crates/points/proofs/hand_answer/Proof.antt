@@ -1,10 +1,10 @@
--- `tie::hand_answer` meets its contract: a refused query has no points, and an answer's are those of its reader. Assumes nothing.
+-- `points::hand_answer` meets its contract: a refused query has no points, and an answer's are those of its reader. Assumes nothing.
 use Prim.Native.Nat.{_/_}
 use lib.ListN.{length}
-use Rattle.tie.proofs.Laws.{nothing, answer-out}
+use Rattle.points.proofs.Laws.{nothing, answer-out}
 use borrow.Author.Needs.{needs}
-use Rattle.tie.proofs.hand_answer.Statement.{statement}
-use Rattle.tie.proofs.hand_answer.Tie as tie
+use Rattle.points.proofs.hand_answer.Statement.{statement}
+use Rattle.points.proofs.hand_answer.Tie as tie
 
 enum-known-queried : tie.Need-enum-known-queried
 enum-known-queried c = search needs

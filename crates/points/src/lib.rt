@@ -1,0 +1,74 @@
+// Steps the reader of a query's answer to its end and writes the points into a lent slice of numbers, two a point: stamp, then value. It stops where the slice
+// is full; a refused query has no points.
+ghost use mathlib.Core.Path.{_≡_};
+ghost use Prim.Native.Nat.{_/_, min};
+ghost use lib.ListN.{length, take};
+ghost use Rattle.model.specs.Read.{pointsFrom};
+ghost use Rattle.model.specs.Store.{queriedReply};
+ghost use Rattle.model.specs.Demand.{handedOut};
+ghost use Rattle.points.specs.Stored.{stored};
+
+// Steps a reader from a place to its end, or until `out` is full. Answers how many points it handed out.
+fn hand_out(
+    slab: &[u8],
+    column: u32,
+    start: u64,
+    end: u64,
+    from: model::Place,
+    out: &mut [u64],
+) -> usize
+    ensures { λ r. ⌜ stored (now (out .exit)) r ≡ take (length (now (out .entry)) / 2) (pointsFrom (from .left) (now (slab .entry)) column start end from) ⌝ }
+{
+    let room = out.len() / 2;
+    let mut place = from;
+    let mut left = from.left;
+    let mut n: usize = 0;
+    while 0 < left {
+        if room <= n {
+            return n;
+        }
+        let stepped = reader::step(slab, column, start, end, place);
+        let next = stepped.next;
+        let model::Next::Handed(point) = next else {
+            return n;
+        };
+        out[2 * n] = point.stamp;
+        out[2 * n + 1] = point.value;
+        let later = stepped.place;
+        place = later;
+        n += 1;
+        left -= 1;
+    }
+    n
+}
+
+// The smaller one.
+fn least(a: usize, b: usize) -> usize
+    ensures { λ r. ⌜ r ≡ min a b ⌝ }
+{
+    if a < b {
+        return a;
+    }
+    b
+}
+
+// Writes out the points of a query's answer on the image that it was asked of. Answers how many.
+pub fn hand_answer(image: &[u8], queried: model::Queried, out: &mut [u64]) -> usize
+    ensures { λ r. ⌜ stored (now (out .exit)) r ≡ take (length (now (out .entry)) / 2) (handedOut (queriedReply (now (image .entry)) queried)) ⌝ }
+{
+    let model::Queried::Answer(found) = queried else {
+        return 0;
+    };
+    let len = image.len();
+    let to = least(found.to, len);
+    let from = least(found.from, to);
+    let place = found.place;
+    hand_out(
+        &image[from..to],
+        found.column,
+        found.start,
+        found.end,
+        place,
+        out,
+    )
+}
