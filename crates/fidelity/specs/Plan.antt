@@ -3,12 +3,16 @@
 use Prim.Native.Nat.{ℕ, zero, suc, _+_, _-_, _*_, _/_, _≤_, _<_}
 use native.Mathlib.Nat.{zero-mul, mul-assoc, mul-pos, mul-div-cancel, mul-le-mul-right, le-of-mul-le-mul-right}
 use native.Mathlib.Omega.{arith}
+use native.Mathlib.Decide.{decLt}
 use mathlib.Core.Path.{_≡_, sym, ap, _∙_, subst}
+use mathlib.Core.Bool.{Bool, true, false}
 use mathlib.Core.List.{List, []}
-use Rattle.model.specs.Image.{rowCount, rowAt, rowSlots, layoutCheck}
-use Rattle.model.specs.Lent.{Lent}
-use Rattle.frame.specs.Checks.{Shape, tiers-ok}
-use Rattle.frame.specs.Tiers.{tier-row, some-tier, series-one}
+use lib.Dec.{eqb}
+use Rattle.model.specs.declared.Row.{Row}
+use Rattle.model.specs.Image.{schemas, rowCount, rowAt, rowsFrom, rows, rowSlots, keepRow, tiersOf, schemaCheck, layoutCheck}
+use Rattle.model.specs.Lent.{Lent, firstRow}
+use Rattle.frame.specs.Checks.{Shape, schema-at, schema-parts, layout-parts, tiers-ok}
+use Rattle.frame.specs.Tiers.{schema-le, TierRow, tier-row, some-tier, series-one}
 use Rattle.fresh.specs.FreshImage.{plan-parts}
 use Rattle.samples.specs.Lists.{multiple}
 use Rattle.fidelity.specs.Stronger.{Planned}
@@ -24,6 +28,19 @@ ratio p k = rowAt p (suc k) .interval / rowAt p k .interval
 unfoldable pub per : List ℕ → ℕ → ℕ
 per p k = coarsestOf p / rowAt p k .interval
 
+-- rows that all average have no finest tier among them, which has no function: a schema's tiers would be refused
+all-average : (k : ℕ) (s : List ℕ) (i n : ℕ) → ((j : ℕ) → i ≤ j → j < i + n → rowAt s j .function ≡ 1) → schemaCheck (tiersOf k (rowsFrom s i n)) ≡ 0 → ⊥
+unfolding tiersOf rowsFrom keepRow
+all-average k s i zero av h = unfold schemaCheck in (omega arith)
+all-average k s i (suc n) av h = go (eqb (rowAt s i .schema) k) h (all-average k s (suc i) n (λ j x y. av j (omega arith) (omega arith)))
+  where
+    rest : List Row
+    rest = tiersOf k (rowsFrom s (suc i) n)
+
+    go : (b : Bool) → schemaCheck (keepRow b (rowAt s i) rest) ≡ 0 → (schemaCheck rest ≡ 0 → ⊥) → ⊥
+    go true c later = omega (arith, av i (omega arith) (omega arith), schema-parts (rowAt s i) rest c .3)
+    go false c later = later c
+
 module _ {p buf : List ℕ} (ok : Planned p buf) where
   shape-is : Shape p
   shape-is = plan-parts p buf (ok .accepted) .0 .shape-is
@@ -31,9 +48,38 @@ module _ {p buf : List ℕ} (ok : Planned p buf) where
   layout-is : layoutCheck p ≡ 0
   layout-is = plan-parts p buf (ok .accepted) .0 .layout-is
 
-  -- its schema has a tier
+  -- schema 0 has a tier, so the first row is one of it
+  finest-row : TierRow p shape-is 0 0
+  finest-row = tier-row p shape-is 0 0 (some-tier p shape-is layout-is 0 (omega (arith, shape-is .some-schemas)))
+
   pub some-rows : 0 < rowCount p
-  some-rows = omega (arith, tier-row p shape-is 0 0 (some-tier p shape-is layout-is 0 (omega (arith, ok .one-schema))) .there)
+  some-rows = omega (arith, finest-row .there)
+
+  first-schema : rowAt p 0 .schema ≡ 0
+  first-schema =
+      let z = schema-le p shape-is 0 (firstRow 0 (rows p) + 0) (omega arith) (finest-row .there) in
+      omega (arith, z, finest-row .schema-is)
+
+  -- a second schema's tiers are among the other rows
+  other-rows : (n : ℕ) → schemaCheck (tiersOf 1 (rowsFrom p 0 (suc n))) ≡ 0 → schemaCheck (tiersOf 1 (rowsFrom p 1 n)) ≡ 0
+  unfolding tiersOf rowsFrom keepRow
+  other-rows n c = rw first-schema at c
+
+  -- and they all average: so there is one schema
+  pub one-schema : schemas p ≡ 1
+  unfolding rows
+  one-schema = go (decLt 1 (schemas p))
+    where
+      average : (j : ℕ) → 1 ≤ j → j < rowCount p → rowAt p j .function ≡ 1
+      average j x y = let f : suc (j - 1) ≡ j = omega arith in subst (λ (i : ℕ). rowAt p i .function ≡ 1) f (ok .average (j - 1) (omega arith))
+
+      go : Dec (1 < schemas p) → schemas p ≡ 1
+      go (no ne) = omega (arith, shape-is .some-schemas)
+      go (yes h) =
+          let c = schema-at (rows p) 0 (schemas p) (layout-parts p layout-is .0) 1 (omega arith) (omega arith) in
+          let n = rowCount p - 1 in
+          let e : rowCount p ≡ suc n = omega (arith, some-rows) in
+          absurd (all-average 1 p 1 n (λ j x y. average j x (omega arith)) (other-rows n (subst (λ (m : ℕ). schemaCheck (tiersOf 1 (rowsFrom p 0 m)) ≡ 0) e c)))
 
   pub long : (k : ℕ) → k < rowCount p → 0 < rowAt p k .interval
   long k h = tiers-ok p shape-is layout-is k h .long
@@ -124,4 +170,4 @@ module _ {p buf : List ℕ} (ok : Planned p buf) where
   pub series-same : (k : ℕ) → k < rowCount p → rowAt p k .series ≡ rowAt p 0 .series
   series-same k h =
       let l : Lent = record { image = p; flags = [] } in
-      sym (series-one l shape-is (ok .one-schema) k h) ∙ series-one l shape-is (ok .one-schema) 0 (omega arith)
+      sym (series-one l shape-is one-schema k h) ∙ series-one l shape-is one-schema 0 (omega arith)

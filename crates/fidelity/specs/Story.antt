@@ -34,7 +34,7 @@ use Rattle.fidelity.specs.Values.{tierLong, tierValue, length-values, va
 use Rattle.fidelity.specs.Exact.{within-is}
 use Rattle.fidelity.specs.Sums.{OnTicks, window-count, window-sum}
 use Rattle.fidelity.specs.Stronger.{Planned, Supposition}
-use Rattle.fidelity.specs.Plan.{ratio, coarsestOf, per, some-rows, long, coarsest-is, some-per, interval-ticks, ratios}
+use Rattle.fidelity.specs.Plan.{ratio, coarsestOf, per, some-rows, one-schema, long, coarsest-is, some-per, interval-ticks, ratios}
 use Rattle.fidelity.specs.Begin.{begins}
 use Rattle.fidelity.specs.Setting.{Supplied, tickValue, tick-once, tick-offset, setting, setting-fits}
 use Rattle.fidelity.specs.Due.{due-is, each-is}
@@ -145,7 +145,7 @@ module _ (s : Situation) (h : Supposition s) where
     e = 0;
     N = 0;
     b = false;
-    store = begins S l (ok .accepted) (ok .one-schema) (low-open p l (ok .accepted) (some-opens (openCheck (creation p l .image)) xs recorded not-zero));
+    store = begins S l (ok .accepted) (one-schema ok) (low-open p l (ok .accepted) (some-opens (openCheck (creation p l .image)) xs recorded not-zero));
     on-schedule = on-schedule;
   }
 

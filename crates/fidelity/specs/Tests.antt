@@ -11,7 +11,7 @@ use lib.Dec.{T, leb, ltb, eqb}
 use lib.ListN.{length}
 use lib.Ieee.Bits.{is-true}
 use Rattle.model.specs.declared.Row.{Row}
-use Rattle.model.specs.Image.{schemas, rowCount, rowAt, rowsFrom, rows, rowSlots, every, createCheck}
+use Rattle.model.specs.Image.{rowCount, rowAt, rowsFrom, rows, rowSlots, every, createCheck}
 use Rattle.model.specs.Demand.{ratioOk, averaging, lastInterval, spanning, suited, Sample, events, firstOf, ascending, all, isOffset, gapless, ticks, scheduled, supposed, used, Situation, finest, coarsest, afterRun, history, samples}
 use Rattle.laws.specs.Tests.{split3, le-is, eq-is}
 use Rattle.frame.specs.Rows.{every-at}
@@ -79,13 +79,12 @@ suited-from s (suc k) h =
       λ i p. rw d at (le-is D (rowSlots (rowAt s i) * rowAt s i .interval) (every-at (λ r. leb D (rowSlots r * r .interval)) s 0 (suc k) far i (omega arith) (omega arith))),
     )
 
-planned : (p buf : List ℕ) → createCheck p buf ≡ 0 → schemas p ≡ 1 → suited (rows p) ≡ true → Planned p buf
+planned : (p buf : List ℕ) → createCheck p buf ≡ 0 → suited (rows p) ≡ true → Planned p buf
 unfolding rows
-planned p buf accepted one h =
+planned p buf accepted h =
     let x = suited-from p (rowCount p) h in
     record {
       accepted = accepted;
-      one-schema = one;
       whole = λ k l. x .0 k l .whole;
       most = λ k l. x .0 k l .most;
       average = λ k l. x .0 k l .average;
@@ -95,11 +94,11 @@ planned p buf accepted one h =
 -- ---- the samples
 
 -- the statement's supposition is more than enough
-pub clauses : (s : Situation) → createCheck (s .plan) (s .buf) ≡ 0 → schemas (s .plan) ≡ 1 → T (suited (rows (s .plan)))
+pub clauses : (s : Situation) → createCheck (s .plan) (s .buf) ≡ 0 → T (suited (rows (s .plan)))
     → T (supposed (finest s) (coarsest s) (history s)) → events (afterRun s) (s .between) ≡ [] → T (used (s .column) (samples s)) → s .tier < rowCount (s .plan)
     → Supposition s
 unfolding supposed samples
-clauses s accepted one plan h quiet column tier =
+clauses s accepted plan h quiet column tier =
     let es = history s in
     let xs = samples s in
     let d = finest s in
@@ -111,7 +110,7 @@ clauses s accepted one plan h quiet column tier =
     let v = split3 (ltb 0 (firstOf xs)) first (ascending 0 xs) (u .0) in
     let w = split3 (all f xs) (all g xs) (all e xs) (sym (all-three f g e xs) ∙ u .1) in
     record {
-      plan-is = planned (s .plan) (s .buf) accepted one (is-true (suited (rows (s .plan))) plan);
+      plan-is = planned (s .plan) (s .buf) accepted (is-true (suited (rows (s .plan))) plan);
       first-whole = eq-is (firstOf xs % coarsest s) 0 (v .1);
       ordered = v .2;
       offsets = w .0;

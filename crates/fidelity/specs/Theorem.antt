@@ -11,4 +11,4 @@ stronger s h = rw (samples-are s, left-is s h) (as-promised s h)
 
 pub proof : ThirdDemand
 unfolding ThirdDemand StrongerDemand
-proof s accepted one plan supposition quiet column tier = stronger s (clauses s accepted one plan supposition quiet column tier)
+proof s accepted one plan supposition quiet column tier = stronger s (clauses s accepted plan supposition quiet column tier)
