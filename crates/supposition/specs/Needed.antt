@@ -1,15 +1,16 @@
--- The theorem's supposition is not stronger than it must be: for each of its clauses a list of calls that breaks that clause alone, and where the promise
--- fails; and a plan that breaks one clause of `suited`, likewise. (A first stamp of 0 is no case: no sample has it.) By computation. Assumes nothing.
+-- The theorem's supposition is not stronger than it must be: for each clause of `supposed` a list of calls that breaks that clause alone, and where the
+-- promise fails; a plan that breaks one clause of `suited`, likewise; and a query that breaks the clause on the calls between, on the column, on the tier. (A
+-- first stamp of 0 is no case: no sample has it.) By computation. Assumes nothing.
 use Prim.Native.Nat.{ℕ, zero, suc, _%_}
 use mathlib.Core.Path.{_≡_, refl}
 use mathlib.Core.Bool.{Bool, true, false, _&&_}
-use mathlib.Core.List.{List, [], _∷_, map}
+use mathlib.Core.List.{List, [], _∷_, _++_, map}
 use lib.Dec.{ltb, eqb}
 use lib.ListN.{replicate, take}
 use Rattle.model.specs.declared.Row.{Row}
-use Rattle.model.specs.Image.{rows}
+use Rattle.model.specs.Image.{rows, rowCount}
 use Rattle.model.specs.Store.{Call, recordCall, consolidateCall}
-use Rattle.model.specs.Demand.{Demand-defs, Sample, samplesIn, firstOf, ascending, all, isOffset, gapless, ticks, scheduled, supposed, each, suited, Situation, finest, coarsest, history, samples, answers, tierInterval, due}
+use Rattle.model.specs.Demand.{Demand-defs, Sample, Event, events, samplesIn, firstOf, ascending, all, isOffset, gapless, ticks, scheduled, supposed, each, suited, used, Situation, finest, coarsest, afterRun, history, samples, answers, tierInterval, due}
 use Rattle.model.specs.Cases.{Cases-defs, tier, plan, num}
 use Rattle.model.specs.Instance.{both}
 use Rattle.samples.specs.Lists.{all-three}
@@ -89,8 +90,24 @@ unsuited =
     ∷ on (tier 0 10 20 0 ∷ tier 1 20 20 2 ∷ []) (both 20 (num 1) (num 2) ∷ both 30 (num 3) (num 2) ∷ []) 1
     ∷ on (tier 0 10 20 0 ∷ tier 1 40 40 1 ∷ []) (both 40 (num 0) (num 2) ∷ both 50 (num 0) (num 2) ∷ both 60 (num 4) (num 2) ∷ both 70 (num 4) (num 2) ∷ []) 1 ∷ []
 
+-- ---- the clauses beside them: the calls between do nothing; the column is used; the tier is one of the plan's
+
+unfoldable pub isNothing : List Event → Bool
+isNothing [] = true
+isNothing (e ∷ es) = false
+
+unfoldable pub others : Situation → List Bool
+others s = isNothing (events (afterRun s) (s .between)) ∷ used (s .column) (samples s) ∷ ltb (s .tier) (rowCount (s .plan)) ∷ []
+
+-- a sample between the run and the query; a column without a sample; a tier that is none, where the bytes behind the plan look like a row
+unfoldable pub beside : List Situation
+beside =
+    record { plan = plan two; buf = replicate 800 9; flags = replicate 32 true; before = both 20 (num 1) (num 2) ∷ both 30 (num 1) (num 2) ∷ []; between = recordCall 0 1 (num 1) 40 ∷ []; column = 1; tier = 0 }
+    ∷ on two (recordCall 0 0 (num 1) 20 ∷ recordCall 0 0 (num 1) 30 ∷ []) 0
+    ∷ record { plan = plan two ++ replicate 8 0 ++ 10 ∷ replicate 7 0 ++ 20 ∷ replicate 7 0; buf = replicate 800 9; flags = replicate 32 true; before = both 20 (num 1) (num 2) ∷ both 30 (num 1) (num 2) ∷ []; between = []; column = 1; tier = 2 } ∷ []
+
 unfoldable Needed-defs : Unit {0}
-unfolding Cases-defs Demand-defs both clauses kept on two allBut broken unsuited
+unfolding Cases-defs Demand-defs both clauses kept on two allBut broken unsuited isNothing others beside
 Needed-defs = tt
 
 -- each breaks its own clause alone
@@ -113,3 +130,15 @@ not-suited = refl
 pub promise-fails-too : map kept unsuited ≡ replicate 3 false
 unfolding Needed-defs
 promise-fails-too = refl
+
+pub others-hold : map (λ (s : Situation). suited (rows (s .plan)) ∷ clauses s) beside ≡ replicate 3 (replicate 7 true)
+unfolding Needed-defs
+others-hold = refl
+
+pub one-of-them : map others beside ≡ (false ∷ true ∷ true ∷ []) ∷ (true ∷ false ∷ true ∷ []) ∷ (true ∷ true ∷ false ∷ []) ∷ []
+unfolding Needed-defs
+one-of-them = refl
+
+pub promise-fails-there : map kept beside ≡ replicate 3 false
+unfolding Needed-defs
+promise-fails-there = refl
