@@ -1,0 +1,599 @@
+// Text for the command-line program: words, numbers, durations and values, written in columns and read from words.
+// Nothing here has a `requires`: what cannot be read is `Bad`, and a width that is too small is overrun, so that no digit is ever cut off.
+ghost use mathlib.Core.Path.{_≡_};
+ghost use Prim.Native.Nat.{_≤_};
+ghost use lib.ListN.{length};
+
+// What a word was read as: a number or a value's 64-bit pattern; or no such thing.
+pub enum Parsed {
+    Value(u64),
+    Bad,
+}
+
+// A word of a line: the bytes from `from` up to `to`; none where the two are equal.
+pub struct Word {
+    pub from: usize,
+    pub to: usize,
+}
+
+// A value as a sign and a whole number of units of 2^-20, where it is a number of less than 2^43.
+pub enum Fixed {
+    Units(bool, u64),
+    NotANumber,
+    Infinite(bool),
+    Huge(bool),
+}
+
+// A decimal number that is being read: its digits as one number, how many there were, and how many behind the point.
+struct Decimal {
+    number: u64,
+    digits: usize,
+    decimals: usize,
+    point: bool,
+}
+
+enum Read {
+    So(Decimal),
+    Bad,
+}
+
+// Writes s.
+pub fn put(fd: i32, s: &[u8]) {
+    io::write_all(fd, s);
+}
+
+fn least(a: usize, b: usize) -> usize
+    ensures { λ r. ⌜ (r ≤ a) × (r ≤ b) ⌝ }
+{
+    if a < b { a } else { b }
+}
+
+// Writes n spaces, at most 64.
+fn spaces(fd: i32, n: usize) {
+    let blank = [32u8; 64];
+    let k = least(n, 64);
+    io::write_all(fd, &blank[..k]);
+}
+
+// The spaces that a text of a + b characters leaves of a width.
+fn pad(fd: i32, width: usize, a: usize, b: usize) {
+    if a < width {
+        let rest = width - a;
+        if b < rest {
+            spaces(fd, rest - b);
+        }
+    }
+}
+
+// Writes s at the right of a column.
+pub fn put_right(fd: i32, s: &[u8], width: usize) {
+    pad(fd, width, s.len(), 0);
+    io::write_all(fd, s);
+}
+
+// Writes s at the left of a column.
+pub fn put_padded(fd: i32, s: &[u8], width: usize) {
+    io::write_all(fd, s);
+    pad(fd, width, s.len(), 0);
+}
+
+// Writes x with a unit at the right of a column.
+fn put_units(fd: i32, x: u64, unit: &[u8], width: usize) {
+    let mut digits = [0u8; 20];
+    let k = io::decimal(x, &mut digits);
+    pad(fd, width, k, unit.len());
+    io::write_all(fd, &digits[..k]);
+    io::write_all(fd, unit);
+}
+
+// Writes x at the right of a column.
+pub fn put_number(fd: i32, x: u64, width: usize) {
+    put_units(fd, x, b"", width);
+}
+
+// Writes a length of time in the largest unit of which it is a whole number, at the right of a column: `1s`, `1min`, `30d`.
+pub fn put_duration(fd: i32, ns: u64, width: usize) {
+    if ns % 1_000 != 0 || ns == 0 {
+        put_units(fd, ns, b"ns", width);
+    } else if ns % 1_000_000 != 0 {
+        put_units(fd, ns / 1_000, b"us", width);
+    } else if ns % 1_000_000_000 != 0 {
+        put_units(fd, ns / 1_000_000, b"ms", width);
+    } else if ns % 60_000_000_000 != 0 {
+        put_units(fd, ns / 1_000_000_000, b"s", width);
+    } else if ns % 3_600_000_000_000 != 0 {
+        put_units(fd, ns / 60_000_000_000, b"min", width);
+    } else if ns % 86_400_000_000_000 != 0 {
+        put_units(fd, ns / 3_600_000_000_000, b"h", width);
+    } else {
+        put_units(fd, ns / 86_400_000_000_000, b"d", width);
+    }
+}
+
+// x / 2^k, rounded down.
+fn down(x: u64, k: u64) -> u64
+    ensures { λ r. ⌜ r ≤ x ⌝ }
+{
+    if k > 63 {
+        return 0;
+    }
+    x >> k
+}
+
+// x / 2^(k + 1), rounded to the nearest, a half up.
+fn nearest(x: u64, k: u64) -> u64
+    ensures { λ r. ⌜ r ≤ x ⌝ }
+{
+    let twice = down(x, k);
+    twice / 2 + twice % 2
+}
+
+// The eleven exponent bits of a pattern.
+fn exponent(pattern: u64) -> u64 {
+    pattern / 4503599627370496 % 2048
+}
+
+// The whole number m of a finite value m / 2^s, by its exponent bits.
+fn mantissa(pattern: u64, e: u64) -> u64
+    ensures { λ r. ⌜ r ≤ 9007199254740991 ⌝ }
+{
+    let fraction = pattern % 4503599627370496;
+    if e == 0 {
+        return fraction;
+    }
+    fraction + 4503599627370496
+}
+
+// The s of a value m / 2^s below 2^43, by its exponent bits.
+fn scale(e: u64) -> u64
+    ensures { λ r. ⌜ (10 ≤ r) × (r ≤ 1074) ⌝ }
+{
+    if e == 0 {
+        return 1074;
+    }
+    if e > 1065 {
+        return 10;
+    }
+    1075 - e
+}
+
+// m / 2^s in units of 2^-20.
+fn in_units(m: u64, s: u64) -> u64 {
+    if s > 20 {
+        return nearest(m, s - 21);
+    }
+    m << (20 - s)
+}
+
+// A value's sign and size, to the nearest unit of 2^-20.
+pub fn fixed_of(pattern: u64) -> Fixed {
+    let negative = pattern >= 0x8000_0000_0000_0000;
+    let e = exponent(pattern);
+    if e == 2047 {
+        if pattern % 4503599627370496 != 0 {
+            return Fixed::NotANumber;
+        }
+        return Fixed::Infinite(negative);
+    }
+    if e > 1065 {
+        return Fixed::Huge(negative);
+    }
+    let m = mantissa(pattern, e);
+    let s = scale(e);
+    Fixed::Units(negative, in_units(m, s))
+}
+
+// Writes a sign and a number of millionths with its six decimals, at the right of a column.
+fn put_millionths(fd: i32, negative: bool, x: u64, width: usize) {
+    let mut digits = [0u8; 20];
+    let mut decimals = [0u8; 20];
+    let k = io::decimal(x / 1_000_000, &mut digits);
+    io::decimal(x % 1_000_000 + 1_000_000, &mut decimals);
+    if negative {
+        pad(fd, width, k, 8);
+        io::write_all(fd, b"-");
+    } else {
+        pad(fd, width, k, 7);
+    }
+    io::write_all(fd, &digits[..k]);
+    io::write_all(fd, b".");
+    io::write_all(fd, &decimals[1..7]);
+}
+
+// A whole number and millionths of it, as one number of millionths.
+fn joined(whole: u64, millionths: u64) -> u64 {
+    if whole > 17_592_186_044_416 || millionths > 1_000_000 {
+        return 0;
+    }
+    whole * 1_000_000 + millionths
+}
+
+// Writes a sign and a number of units of 2^-20 with six decimals, at the right of a column.
+pub fn put_fixed(fd: i32, negative: bool, units: u64, width: usize) {
+    let whole = units / 1048576;
+    let part = units % 1048576;
+    let millionths = (part * 1_000_000 + 524288) / 1048576;
+    put_millionths(fd, negative, joined(whole, millionths), width);
+}
+
+// The millionths of rest / 2^s, where that is below 1, for s of 33 or more: rest * 15625 * 2^6 / 2^s, by two halves of rest.
+fn fine_part(rest: u64, s: u64) -> u64 {
+    let low = rest % 67108864 * 15625;
+    let high = rest / 67108864 % 134217728 * 15625;
+    let product = high + low / 67108864;
+    if s < 33 {
+        return 0;
+    }
+    nearest(product, s - 33)
+}
+
+// The millionths of rest / 2^s, where that is below 1, for s of 10 to 32.
+fn coarse_part(rest: u64, s: u64) -> u64 {
+    let product = rest % 4294967296 * 31250;
+    if s < 6 {
+        return 0;
+    }
+    nearest(product, s - 6)
+}
+
+// The millionths of m / 2^s, to the nearest.
+fn millionths(m: u64, s: u64) -> u64 {
+    let whole = down(m, s);
+    let rest = below(m, s);
+    if s < 33 {
+        return joined(whole, coarse_part(rest, s));
+    }
+    joined(whole, fine_part(rest, s))
+}
+
+// What x / 2^k leaves.
+fn below(x: u64, k: u64) -> u64 {
+    if k > 63 {
+        return x;
+    }
+    x & ((1 << k) - 1)
+}
+
+// Writes a pattern as 0x and 16 digits, at the right of a column.
+fn put_pattern(fd: i32, pattern: u64, width: usize) {
+    pad(fd, width, 18, 0);
+    io::write_all(fd, b"0x");
+    io::print_hex(fd, pattern, 16);
+}
+
+// Writes a value at the right of a column: six decimals, to the nearest; a value of 2^43 or more as its pattern.
+pub fn put_value(fd: i32, pattern: u64, width: usize) {
+    let e = exponent(pattern);
+    if e == 2047 {
+        put_no_number(fd, pattern, width);
+        return;
+    }
+    if e > 1065 {
+        put_pattern(fd, pattern, width);
+        return;
+    }
+    let m = mantissa(pattern, e);
+    let s = scale(e);
+    let negative = pattern >= 0x8000_0000_0000_0000;
+    put_millionths(fd, negative, millionths(m, s), width);
+}
+
+// A pattern whose exponent bits are all ones.
+fn put_no_number(fd: i32, pattern: u64, width: usize) {
+    if pattern == 0x7ff0_0000_0000_0000 {
+        put_right(fd, b"inf", width);
+    } else if pattern == 0xfff0_0000_0000_0000 {
+        put_right(fd, b"-inf", width);
+    } else {
+        put_right(fd, b"nan", width);
+    }
+}
+
+// a and b are the same bytes.
+pub fn same(a: &[u8], b: &[u8]) -> bool {
+    if a.len() != b.len() {
+        return false;
+    }
+    let mut i = 0;
+    while i < a.len() {
+        if a[i] != b[i] {
+            return false;
+        }
+        i += 1;
+    }
+    true
+}
+
+// A byte that parts words: a space, a tab, or an end of line.
+fn is_blank(b: u8) -> bool {
+    b == 32 || b == 9 || b == 10 || b == 13
+}
+
+// The first place from `at` on that is not blank.
+fn skip_blanks(s: &[u8], at: usize) -> usize
+    requires { ⌜ at ≤ length (now s) ⌝ }
+    ensures { λ r. ⌜ (at ≤ r) × (r ≤ length (now (s .entry))) ⌝ }
+{
+    let mut i = at;
+    while i < s.len() {
+        let blank = is_blank(s[i]);
+        if !blank {
+            return i;
+        }
+        i += 1;
+    }
+    i
+}
+
+// The first place from `at` on that is blank.
+fn skip_word(s: &[u8], at: usize) -> usize
+    requires { ⌜ at ≤ length (now s) ⌝ }
+    ensures { λ r. ⌜ (at ≤ r) × (r ≤ length (now (s .entry))) ⌝ }
+{
+    let mut i = at;
+    while i < s.len() {
+        let blank = is_blank(s[i]);
+        if blank {
+            return i;
+        }
+        i += 1;
+    }
+    i
+}
+
+// The next word of s from `at` on; none, at the end of s, where no word is left.
+pub fn next_word(s: &[u8], at: usize) -> Word
+    ensures { λ r. ⌜ (r .from ≤ r .to) × (r .to ≤ length (now (s .entry))) ⌝ }
+{
+    if at > s.len() {
+        return Word {
+            from: s.len(),
+            to: s.len(),
+        };
+    }
+    let from = skip_blanks(s, at);
+    let to = skip_word(s, from);
+    Word { from, to }
+}
+
+// x with one decimal digit more.
+fn with_digit(x: u64, b: u8) -> Parsed {
+    if b < 48 {
+        return Parsed::Bad;
+    }
+    if b > 57 {
+        return Parsed::Bad;
+    }
+    let d = (b - 48) as u64;
+    if x > 1844674407370955161 {
+        return Parsed::Bad;
+    }
+    if d > 18446744073709551615 - x * 10 {
+        return Parsed::Bad;
+    }
+    Parsed::Value(x * 10 + d)
+}
+
+// A whole number below 2^64, in decimal digits and nothing else.
+pub fn parse_number(s: &[u8]) -> Parsed {
+    if s.len() == 0 {
+        return Parsed::Bad;
+    }
+    let mut x: u64 = 0;
+    let mut i = 0;
+    while i < s.len() {
+        let Parsed::Value(y) = with_digit(x, s[i]) else {
+            return Parsed::Bad;
+        };
+        x = y;
+        i += 1;
+    }
+    Parsed::Value(x)
+}
+
+// How many bytes s begins with that are digits.
+fn digits_of(s: &[u8]) -> usize
+    ensures { λ r. ⌜ r ≤ length (now (s .entry)) ⌝ }
+{
+    let mut i = 0;
+    while i < s.len() {
+        let b = s[i];
+        if b < 48 {
+            return i;
+        }
+        if b > 57 {
+            return i;
+        }
+        i += 1;
+    }
+    i
+}
+
+// How many nanoseconds a unit has; 0 where it is none.
+fn unit_size(unit: &[u8]) -> u64 {
+    if unit.len() == 0 {
+        return 1;
+    }
+    if same(unit, b"ns") {
+        return 1;
+    }
+    if same(unit, b"us") {
+        return 1_000;
+    }
+    if same(unit, b"ms") {
+        return 1_000_000;
+    }
+    if same(unit, b"s") {
+        return 1_000_000_000;
+    }
+    large_unit(unit)
+}
+
+fn large_unit(unit: &[u8]) -> u64 {
+    if same(unit, b"min") {
+        return 60_000_000_000;
+    }
+    if same(unit, b"h") {
+        return 3_600_000_000_000;
+    }
+    if same(unit, b"d") {
+        return 86_400_000_000_000;
+    }
+    0
+}
+
+// x units of a size, where the product is below 2^64.
+fn times(x: u64, size: u64) -> Parsed {
+    if size == 0 {
+        return Parsed::Bad;
+    }
+    if x > 18446744073709551615 / size {
+        return Parsed::Bad;
+    }
+    Parsed::Value(x * size)
+}
+
+// A whole number with a unit of time, in nanoseconds: ns, us, ms, s, min, h, d; none is ns.
+pub fn parse_duration(s: &[u8]) -> Parsed {
+    let k = digits_of(s);
+    let Parsed::Value(x) = parse_number(&s[..k]) else {
+        return Parsed::Bad;
+    };
+    let size = unit_size(&s[k..]);
+    times(x, size)
+}
+
+// One byte more of a decimal number: at most 15 digits, at most 9 of them behind the point.
+fn with_byte(d: Decimal, b: u8) -> Read {
+    if b == 46 {
+        if d.point {
+            return Read::Bad;
+        }
+        return Read::So(Decimal {
+            number: d.number,
+            digits: d.digits,
+            decimals: 0,
+            point: true,
+        });
+    }
+    if d.digits > 14 {
+        return Read::Bad;
+    }
+    if d.decimals > 8 {
+        return Read::Bad;
+    }
+    let Parsed::Value(x) = with_digit(d.number, b) else {
+        return Read::Bad;
+    };
+    let behind = if d.point { d.decimals + 1 } else { 0 };
+    Read::So(Decimal {
+        number: x,
+        digits: d.digits + 1,
+        decimals: behind,
+        point: d.point,
+    })
+}
+
+// A decimal number without a sign.
+fn decimal_of(s: &[u8]) -> Read {
+    let mut d = Decimal {
+        number: 0,
+        digits: 0,
+        decimals: 0,
+        point: false,
+    };
+    let mut i = 0;
+    while i < s.len() {
+        let Read::So(next) = with_byte(d, s[i]) else {
+            return Read::Bad;
+        };
+        d = next;
+        i += 1;
+    }
+    if d.digits == 0 {
+        return Read::Bad;
+    }
+    Read::So(d)
+}
+
+// 10^k, up to 10^9.
+fn power_of_ten(k: usize) -> f64 {
+    match k {
+        0 => 1.0,
+        1 => 10.0,
+        2 => 100.0,
+        3 => 1000.0,
+        4 => 10000.0,
+        5 => 100000.0,
+        6 => 1000000.0,
+        7 => 10000000.0,
+        8 => 100000000.0,
+        _ => 1000000000.0,
+    }
+}
+
+// The pattern of a decimal number: both sides of the division are exact, so the quotient is the nearest value.
+fn pattern_of(s: &[u8]) -> Parsed {
+    let Read::So(d) = decimal_of(s) else {
+        return Parsed::Bad;
+    };
+    let q = std::num::nearest_u64_to_f64(d.number) / power_of_ten(d.decimals);
+    if q == q {
+        return Parsed::Value(f64::to_bits(q));
+    }
+    Parsed::Bad
+}
+
+// x with one hexadecimal digit more.
+fn with_hex(x: u64, b: u8) -> Parsed {
+    if x > 0xfff_ffff_ffff_ffff {
+        return Parsed::Bad;
+    }
+    if b >= 48 && b <= 57 {
+        return Parsed::Value(x * 16 + ((b - 48) as u64));
+    }
+    if b >= 97 && b <= 102 {
+        return Parsed::Value(x * 16 + ((b - 87) as u64));
+    }
+    if b >= 65 && b <= 70 {
+        return Parsed::Value(x * 16 + ((b - 55) as u64));
+    }
+    Parsed::Bad
+}
+
+// A pattern: 16 hexadecimal digits.
+fn parse_hex(s: &[u8]) -> Parsed {
+    if s.len() != 16 {
+        return Parsed::Bad;
+    }
+    let mut x: u64 = 0;
+    let mut i = 0;
+    while i < s.len() {
+        let Parsed::Value(y) = with_hex(x, s[i]) else {
+            return Parsed::Bad;
+        };
+        x = y;
+        i += 1;
+    }
+    Parsed::Value(x)
+}
+
+// A value's pattern from a word: a decimal number as `-12` or `3.5`, `nan`, or `0x` with 16 hexadecimal digits.
+pub fn parse_value(s: &[u8]) -> Parsed {
+    if same(s, b"nan") {
+        return Parsed::Value(0x7ff8_0000_0000_0000);
+    }
+    if s.len() < 2 {
+        return pattern_of(s);
+    }
+    if s[0] == 45 {
+        let Parsed::Value(x) = pattern_of(&s[1..]) else {
+            return Parsed::Bad;
+        };
+        return Parsed::Value(x | 0x8000_0000_0000_0000);
+    }
+    if s[0] == 48 && s[1] == 120 {
+        return parse_hex(&s[2..]);
+    }
+    pattern_of(s)
+}
