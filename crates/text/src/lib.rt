@@ -183,12 +183,20 @@ pub fn fixed_of(pattern: u64) -> Fixed {
     Fixed::Units(negative, in_units(m, s))
 }
 
+// Writes the last six of seven digits.
+fn put_six(fd: i32, digits: &[u8]) {
+    if digits.len() < 7 {
+        return;
+    }
+    io::write_all(fd, &digits[1..7]);
+}
+
 // Writes a sign and a number of millionths with its six decimals, at the right of a column.
 fn put_millionths(fd: i32, negative: bool, x: u64, width: usize) {
     let mut digits = [0u8; 20];
     let mut decimals = [0u8; 20];
     let k = io::decimal(x / 1_000_000, &mut digits);
-    io::decimal(x % 1_000_000 + 1_000_000, &mut decimals);
+    let six = io::decimal(x % 1_000_000 + 1_000_000, &mut decimals);
     if negative {
         pad(fd, width, k, 8);
         io::write_all(fd, b"-");
@@ -197,12 +205,15 @@ fn put_millionths(fd: i32, negative: bool, x: u64, width: usize) {
     }
     io::write_all(fd, &digits[..k]);
     io::write_all(fd, b".");
-    io::write_all(fd, &decimals[1..7]);
+    put_six(fd, &decimals[..six]);
 }
 
 // A whole number and millionths of it, as one number of millionths.
 fn joined(whole: u64, millionths: u64) -> u64 {
-    if whole > 17_592_186_044_416 || millionths > 1_000_000 {
+    if whole > 17_592_186_044_416 {
+        return 0;
+    }
+    if millionths > 1_000_000 {
         return 0;
     }
     whole * 1_000_000 + millionths
@@ -251,7 +262,8 @@ fn below(x: u64, k: u64) -> u64 {
     if k > 63 {
         return x;
     }
-    x & ((1 << k) - 1)
+    let mask = std::num::wrapping_sub_u64(1 << k, 1);
+    x & mask
 }
 
 // Writes a pattern as 0x and 16 digits, at the right of a column.
@@ -544,21 +556,26 @@ fn pattern_of(s: &[u8]) -> Parsed {
     Parsed::Bad
 }
 
+// What a hexadecimal digit stands for; 16 where it is none.
+fn hex_digit(b: u8) -> u8 {
+    match b {
+        48..=57 => b - 48,
+        65..=70 => b - 55,
+        97..=102 => b - 87,
+        _ => 16,
+    }
+}
+
 // x with one hexadecimal digit more.
 fn with_hex(x: u64, b: u8) -> Parsed {
+    let d = hex_digit(b);
+    if d > 15 {
+        return Parsed::Bad;
+    }
     if x > 0xfff_ffff_ffff_ffff {
         return Parsed::Bad;
     }
-    if b >= 48 && b <= 57 {
-        return Parsed::Value(x * 16 + ((b - 48) as u64));
-    }
-    if b >= 97 && b <= 102 {
-        return Parsed::Value(x * 16 + ((b - 87) as u64));
-    }
-    if b >= 65 && b <= 70 {
-        return Parsed::Value(x * 16 + ((b - 55) as u64));
-    }
-    Parsed::Bad
+    Parsed::Value(x * 16 + (d as u64))
 }
 
 // A pattern: 16 hexadecimal digits.
