@@ -1,0 +1,359 @@
+// A plan from words: `series M tier INTERVAL RETENTION [FUNCTION] tier .. [schema series M tier ..]`, as bytes that creation takes.
+// Whether intervals rise and the like is creation's to say: here a plan is refused only for a word that cannot stand where it stands.
+
+// The plan's length; or the place of the word that cannot stand there, and what was expected (`put_expected`).
+pub enum Planned {
+    Length(usize),
+    BadWord(usize, usize, u32),
+}
+
+// A plan that is being made: where the next word is looked for, rows made, the schema, its next tier, its series.
+struct Draft {
+    at: usize,
+    rows: usize,
+    schema: u64,
+    tier: u64,
+    series: u64,
+}
+
+// A tier's numbers.
+struct Tier {
+    interval: u64,
+    retention: u64,
+    function: u64,
+}
+
+enum Step {
+    Go(Draft),
+    Done(Draft),
+    Bad(usize, usize, u32),
+}
+
+// Writes what was expected, in words.
+pub fn put_expected(fd: i32, n: u32) {
+    match n {
+        1 => text::put(fd, b"expected the word series"),
+        2 => text::put(fd, b"expected a number of series"),
+        3 => text::put(fd, b"expected the word tier"),
+        4 => text::put(fd, b"expected an interval, as 1s or 60s"),
+        5 => text::put(fd, b"expected a retention, as 1h or 30d"),
+        6 => text::put(fd, b"expected tier, schema or a function"),
+        7 => text::put(fd, b"at most 32 tiers fit"),
+        _ => text::put(fd, b"at most 8 schemas fit"),
+    }
+}
+
+// The word is `what`.
+fn is_word(line: &[u8], w: text::Word, what: &[u8]) -> bool {
+    let from = w.from;
+    let to = w.to;
+    if to > line.len() {
+        return false;
+    }
+    if from > to {
+        return false;
+    }
+    text::same(&line[from..to], what)
+}
+
+// The word as a number below 2^32.
+fn number_of(line: &[u8], w: text::Word) -> text::Parsed {
+    let from = w.from;
+    let to = w.to;
+    if to > line.len() {
+        return text::Parsed::Bad;
+    }
+    if from > to {
+        return text::Parsed::Bad;
+    }
+    let text::Parsed::Value(x) = text::parse_number(&line[from..to]) else {
+        return text::Parsed::Bad;
+    };
+    if x > 4294967295 {
+        return text::Parsed::Bad;
+    }
+    text::Parsed::Value(x)
+}
+
+// The word as a length of time.
+fn duration_of(line: &[u8], w: text::Word) -> text::Parsed {
+    let from = w.from;
+    let to = w.to;
+    if to > line.len() {
+        return text::Parsed::Bad;
+    }
+    if from > to {
+        return text::Parsed::Bad;
+    }
+    text::parse_duration(&line[from..to])
+}
+
+// The word's function by document 01's number; 0 where it is none.
+fn function_of(line: &[u8], w: text::Word) -> u64 {
+    if is_word(line, w, b"average") {
+        return 1;
+    }
+    if is_word(line, w, b"min") {
+        return 2;
+    }
+    if is_word(line, w, b"max") {
+        return 3;
+    }
+    if is_word(line, w, b"last") {
+        return 4;
+    }
+    late_function(line, w)
+}
+
+fn late_function(line: &[u8], w: text::Word) -> u64 {
+    if is_word(line, w, b"sum") {
+        return 5;
+    }
+    if is_word(line, w, b"count") {
+        return 6;
+    }
+    0
+}
+
+// Stores a u32; nothing where it does not fit.
+fn store4(plan: &mut [u8], at: usize, x: u64) {
+    if at > plan.len() {
+        return;
+    }
+    if plan.len() - at < 4 {
+        return;
+    }
+    field::put_u32(plan, at, x);
+}
+
+// Stores a u64; nothing where it does not fit.
+fn store8(plan: &mut [u8], at: usize, x: u64) {
+    if at > plan.len() {
+        return;
+    }
+    if plan.len() - at < 8 {
+        return;
+    }
+    field::put_u64(plan, at, x);
+}
+
+// Zeros in the whole plan.
+fn clear(plan: &mut [u8]) {
+    let mut i = 0;
+    while i < plan.len() {
+        plan[i] = 0;
+        i += 1;
+    }
+}
+
+// A field of row i.
+fn place(i: usize, field: usize) -> usize {
+    if i > 31 {
+        return 2080;
+    }
+    if field > 63 {
+        return 2080;
+    }
+    32 + 64 * i + field
+}
+
+// The draft's next row, without its hash.
+fn store_row(plan: &mut [u8], d: Draft, t: Tier) {
+    let i = d.rows;
+    store4(plan, place(i, 0), d.schema);
+    store4(plan, place(i, 4), d.tier);
+    store8(plan, place(i, 8), t.interval);
+    store8(plan, place(i, 16), t.retention);
+    store4(plan, place(i, 24), t.function);
+    store4(plan, place(i, 28), d.series);
+}
+
+// One byte more in a hash: FNV-1a of 32 bits.
+fn hashed(h: u64, b: u8) -> u64 {
+    let x = (h ^ (b as u64)) % 4294967296;
+    x * 16777619 % 4294967296
+}
+
+// The hash of a part of the plan, from h on.
+fn hash_part(plan: &[u8], from: usize, to: usize, h: u64) -> u64 {
+    let mut x = h;
+    let mut i = from;
+    while i < to {
+        if i >= plan.len() {
+            return x;
+        }
+        x = hashed(x, plan[i]);
+        i += 1;
+    }
+    x
+}
+
+// A schema's hash: over interval, retention, function and series of its rows.
+fn schema_hash(plan: &[u8], first: usize, end: usize) -> u64 {
+    let mut h: u64 = 2166136261;
+    let mut i = first;
+    while i < end {
+        h = hash_part(plan, place(i, 8), place(i, 32), h);
+        i += 1;
+    }
+    h
+}
+
+// The hash in the rows of the schema that ends with the draft's last row.
+fn store_hash(plan: &mut [u8], first: usize, end: usize) {
+    let h = schema_hash(plan, first, end);
+    let mut i = first;
+    while i < end {
+        store8(plan, place(i, 56), h);
+        i += 1;
+    }
+}
+
+// The draft's schema is complete: its rows get their hash.
+fn close_schema(plan: &mut [u8], d: Draft) {
+    let end = d.rows;
+    let tiers = d.tier as usize;
+    if tiers > end {
+        return;
+    }
+    store_hash(plan, end - tiers, end);
+}
+
+// `series M`, from the draft's place on.
+fn take_series(line: &[u8], d: Draft) -> Step {
+    let w = text::next_word(line, d.at);
+    if !is_word(line, w, b"series") {
+        return Step::Bad(w.from, w.to, 1);
+    }
+    let m = text::next_word(line, w.to);
+    let text::Parsed::Value(x) = number_of(line, m) else {
+        return Step::Bad(m.from, m.to, 2);
+    };
+    Step::Go(
+        Draft {
+            at: m.to,
+            rows: d.rows,
+            schema: d.schema,
+            tier: 0,
+            series: x,
+        },
+    )
+}
+
+// A tier's row, made; the next word is looked for from `at` on.
+fn add_tier(plan: &mut [u8], d: Draft, t: Tier, at: usize) -> Draft {
+    store_row(plan, d, t);
+    Draft {
+        at,
+        rows: if d.rows < 32 { d.rows + 1 } else { 32 },
+        schema: d.schema,
+        tier: if d.tier < 32 { d.tier + 1 } else { 32 },
+        series: d.series,
+    }
+}
+
+// The function behind a tier's retention, if the next word is one.
+fn take_function(line: &[u8], d: Draft, interval: u64, retention: u64, at: usize, plan: &mut [u8]) -> Step {
+    let f = text::next_word(line, at);
+    let function = function_of(line, f);
+    let t = Tier {
+        interval,
+        retention,
+        function,
+    };
+    if function == 0 {
+        return Step::Go(add_tier(plan, d, t, at));
+    }
+    Step::Go(add_tier(plan, d, t, f.to))
+}
+
+// `INTERVAL RETENTION [FUNCTION]`, behind the word `tier` that is w.
+fn take_tier(line: &[u8], d: Draft, w: text::Word, plan: &mut [u8]) -> Step {
+    if d.rows > 31 {
+        return Step::Bad(w.from, w.to, 7);
+    }
+    let i = text::next_word(line, w.to);
+    let text::Parsed::Value(interval) = duration_of(line, i) else {
+        return Step::Bad(i.from, i.to, 4);
+    };
+    let r = text::next_word(line, i.to);
+    let text::Parsed::Value(retention) = duration_of(line, r) else {
+        return Step::Bad(r.from, r.to, 5);
+    };
+    take_function(line, d, interval, retention, r.to, plan)
+}
+
+// `series M`, behind the word `schema` that is w.
+fn take_schema(line: &[u8], d: Draft, w: text::Word, plan: &mut [u8]) -> Step {
+    if d.schema > 6 {
+        return Step::Bad(w.from, w.to, 8);
+    }
+    close_schema(plan, d);
+    take_series(
+        line,
+        Draft {
+            at: w.to,
+            rows: d.rows,
+            schema: d.schema + 1,
+            tier: 0,
+            series: 0,
+        },
+    )
+}
+
+// The next word of a plan and what belongs to it.
+fn take_next(line: &[u8], d: Draft, plan: &mut [u8]) -> Step {
+    let w = text::next_word(line, d.at);
+    if is_word(line, w, b"tier") {
+        return take_tier(line, d, w, plan);
+    }
+    if d.tier == 0 {
+        return Step::Bad(w.from, w.to, 3);
+    }
+    if is_word(line, w, b"schema") {
+        return take_schema(line, d, w, plan);
+    }
+    if w.from < w.to {
+        return Step::Bad(w.from, w.to, 6);
+    }
+    Step::Done(d)
+}
+
+// The last schema's hash and the header: the plan is complete.
+fn close_plan(plan: &mut [u8], d: Draft) -> Planned {
+    close_schema(plan, d);
+    store4(plan, 0, 0x4f545352);
+    store4(plan, 4, 1);
+    store4(plan, 8, std::num::wrapping_add_u64(d.schema, 1));
+    store4(plan, 12, d.rows as u64);
+    Planned::Length(place(d.rows, 0))
+}
+
+// The plan that the words of a line say from `at` on, in a lent buffer of 2,080 bytes.
+pub fn plan_of(line: &[u8], at: usize, plan: &mut [u8]) -> Planned {
+    clear(plan);
+    let empty = Draft {
+        at,
+        rows: 0,
+        schema: 0,
+        tier: 0,
+        series: 0,
+    };
+    let mut step = take_series(line, empty);
+    let mut left = 64;
+    while 0 < left {
+        match step {
+            Step::Go(d) => {
+                step = take_next(line, d, plan);
+            }
+            Step::Done(d) => {
+                return close_plan(plan, d);
+            }
+            Step::Bad(from, to, n) => {
+                return Planned::BadWord(from, to, n);
+            }
+        }
+        left -= 1;
+    }
+    Planned::BadWord(at, at, 7)
+}
