@@ -229,15 +229,13 @@ fn take_series(line: &[u8], d: Draft) -> Step {
     let text::Parsed::Value(x) = number_of(line, m) else {
         return Step::Bad(m.from, m.to, 2);
     };
-    Step::Go(
-        Draft {
-            at: m.to,
-            rows: d.rows,
-            schema: d.schema,
-            tier: 0,
-            series: x,
-        },
-    )
+    Step::Go(Draft {
+        at: m.to,
+        rows: d.rows,
+        schema: d.schema,
+        tier: 0,
+        series: x,
+    })
 }
 
 // A tier's row, made; the next word is looked for from `at` on.
@@ -253,7 +251,14 @@ fn add_tier(plan: &mut [u8], d: Draft, t: Tier, at: usize) -> Draft {
 }
 
 // The function behind a tier's retention, if the next word is one.
-fn take_function(line: &[u8], d: Draft, interval: u64, retention: u64, at: usize, plan: &mut [u8]) -> Step {
+fn take_function(
+    line: &[u8],
+    d: Draft,
+    interval: u64,
+    retention: u64,
+    at: usize,
+    plan: &mut [u8],
+) -> Step {
     let f = text::next_word(line, at);
     let function = function_of(line, f);
     let t = Tier {
@@ -340,7 +345,7 @@ pub fn plan_of(line: &[u8], at: usize, plan: &mut [u8]) -> Planned {
         series: 0,
     };
     let mut step = take_series(line, empty);
-    let mut left = 64;
+    let mut left: usize = 64;
     while 0 < left {
         match step {
             Step::Go(d) => {
