@@ -3,6 +3,7 @@
 ghost use mathlib.Core.Path.{_≡_};
 ghost use Prim.Native.Nat.{_≤_};
 ghost use lib.ListN.{length};
+ghost use Rattle.text.specs.Number.{withDigit, numberOf};
 
 // What a word was read as: a number or a value's 64-bit pattern; or no such thing.
 pub enum Parsed {
@@ -369,7 +370,9 @@ pub fn next_word(s: &[u8], at: usize) -> Word
 }
 
 // x with one decimal digit more.
-fn with_digit(x: u64, b: u8) -> Parsed {
+fn with_digit(x: u64, b: u8) -> Parsed
+    ensures { λ r. ⌜ r ≡ withDigit x b ⌝ }
+{
     if b < 48 {
         return Parsed::Bad;
     }
@@ -387,7 +390,9 @@ fn with_digit(x: u64, b: u8) -> Parsed {
 }
 
 // A whole number below 2^64, in decimal digits and nothing else.
-pub fn parse_number(s: &[u8]) -> Parsed {
+pub fn parse_number(s: &[u8]) -> Parsed
+    ensures { λ r. ⌜ r ≡ numberOf (now (s .entry)) ⌝ }
+{
     if s.len() == 0 {
         return Parsed::Bad;
     }
