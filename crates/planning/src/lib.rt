@@ -115,100 +115,6 @@ fn late_function(line: &[u8], w: text::Word) -> u64 {
     0
 }
 
-// Stores a u32; nothing where it does not fit.
-fn store4(plan: &mut [u8], at: usize, x: u64) {
-    if at > plan.len() {
-        return;
-    }
-    if plan.len() - at < 4 {
-        return;
-    }
-    field::put_u32(plan, at, x);
-}
-
-// Stores a u64; nothing where it does not fit.
-fn store8(plan: &mut [u8], at: usize, x: u64) {
-    if at > plan.len() {
-        return;
-    }
-    if plan.len() - at < 8 {
-        return;
-    }
-    field::put_u64(plan, at, x);
-}
-
-// Zeros in the whole plan.
-fn clear(plan: &mut [u8]) {
-    let mut i = 0;
-    while i < plan.len() {
-        plan[i] = 0;
-        i += 1;
-    }
-}
-
-// A field of row i.
-fn place(i: usize, field: usize) -> usize {
-    if i > 31 {
-        return 2080;
-    }
-    if field > 63 {
-        return 2080;
-    }
-    32 + 64 * i + field
-}
-
-// The draft's next row, without its hash.
-fn store_row(plan: &mut [u8], d: Draft, t: Tier) {
-    let i = d.rows;
-    store4(plan, place(i, 0), d.schema);
-    store4(plan, place(i, 4), d.tier);
-    store8(plan, place(i, 8), t.interval);
-    store8(plan, place(i, 16), t.retention);
-    store4(plan, place(i, 24), t.function);
-    store4(plan, place(i, 28), d.series);
-}
-
-// One byte more in a hash: FNV-1a of 32 bits.
-fn hashed(h: u64, b: u8) -> u64 {
-    let x = (h ^ (b as u64)) % 4294967296;
-    x * 16777619 % 4294967296
-}
-
-// The hash of a part of the plan, from h on.
-fn hash_part(plan: &[u8], from: usize, to: usize, h: u64) -> u64 {
-    let mut x = h;
-    let mut i = from;
-    while i < to {
-        if i >= plan.len() {
-            return x;
-        }
-        x = hashed(x, plan[i]);
-        i += 1;
-    }
-    x
-}
-
-// A schema's hash: over interval, retention, function and series of its rows.
-fn schema_hash(plan: &[u8], first: usize, end: usize) -> u64 {
-    let mut h: u64 = 2166136261;
-    let mut i = first;
-    while i < end {
-        h = hash_part(plan, place(i, 8), place(i, 32), h);
-        i += 1;
-    }
-    h
-}
-
-// The hash in the rows of the schema that ends with the draft's last row.
-fn store_hash(plan: &mut [u8], first: usize, end: usize) {
-    let h = schema_hash(plan, first, end);
-    let mut i = first;
-    while i < end {
-        store8(plan, place(i, 56), h);
-        i += 1;
-    }
-}
-
 // The draft's schema is complete: its rows get their hash.
 fn close_schema(plan: &mut [u8], d: Draft) {
     let end = d.rows;
@@ -216,7 +122,7 @@ fn close_schema(plan: &mut [u8], d: Draft) {
     if tiers > end {
         return;
     }
-    store_hash(plan, end - tiers, end);
+    plan_rows::store_hash(plan, end - tiers, end);
 }
 
 // `series M`, from the draft's place on.
@@ -240,7 +146,16 @@ fn take_series(line: &[u8], d: Draft) -> Step {
 
 // A tier's row, made; the next word is looked for from `at` on.
 fn add_tier(plan: &mut [u8], d: Draft, t: Tier, at: usize) -> Draft {
-    store_row(plan, d, t);
+    plan_rows::store_row(
+        plan,
+        d.rows,
+        d.schema,
+        d.tier,
+        d.series,
+        t.interval,
+        t.retention,
+        t.function,
+    );
     Draft {
         at,
         rows: if d.rows < 32 { d.rows + 1 } else { 32 },
@@ -327,16 +242,13 @@ fn take_next(line: &[u8], d: Draft, plan: &mut [u8]) -> Step {
 // The last schema's hash and the header: the plan is complete.
 fn close_plan(plan: &mut [u8], d: Draft) -> Planned {
     close_schema(plan, d);
-    store4(plan, 0, 0x4f545352);
-    store4(plan, 4, 1);
-    store4(plan, 8, std::num::wrapping_add_u64(d.schema, 1));
-    store4(plan, 12, d.rows as u64);
-    Planned::Length(place(d.rows, 0))
+    plan_rows::store_header(plan, std::num::wrapping_add_u64(d.schema, 1), d.rows as u64);
+    Planned::Length(plan_rows::place(d.rows, 0))
 }
 
 // The plan that the words of a line say from `at` on, in a lent buffer of 2,080 bytes.
 pub fn plan_of(line: &[u8], at: usize, plan: &mut [u8]) -> Planned {
-    clear(plan);
+    plan_rows::clear(plan);
     let empty = Draft {
         at,
         rows: 0,

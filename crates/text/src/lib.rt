@@ -1,5 +1,6 @@
 // Text for the command-line program: words, numbers, durations and values, written in columns and read from words.
 // Nothing here has a `requires`: what cannot be read is `Bad`, and a width that is too small is overrun, so that no digit is ever cut off.
+pub use scan::same;
 ghost use mathlib.Core.Path.{_≡_};
 ghost use Prim.Native.Nat.{_≤_};
 ghost use lib.ListN.{length};
@@ -111,65 +112,10 @@ pub fn put_duration(fd: i32, ns: u64, width: usize) {
     }
 }
 
-// x / 2^k, rounded down.
-fn down(x: u64, k: u64) -> u64
-    ensures { λ r. ⌜ r ≤ x ⌝ }
-{
-    if k > 63 {
-        return 0;
-    }
-    x >> k
-}
-
-// x / 2^(k + 1), rounded to the nearest, a half up.
-fn nearest(x: u64, k: u64) -> u64
-    ensures { λ r. ⌜ r ≤ x ⌝ }
-{
-    let twice = down(x, k);
-    twice / 2 + twice % 2
-}
-
-// The eleven exponent bits of a pattern.
-fn exponent(pattern: u64) -> u64 {
-    pattern / 4503599627370496 % 2048
-}
-
-// The whole number m of a finite value m / 2^s, by its exponent bits.
-fn mantissa(pattern: u64, e: u64) -> u64
-    ensures { λ r. ⌜ r ≤ 9007199254740991 ⌝ }
-{
-    let fraction = pattern % 4503599627370496;
-    if e == 0 {
-        return fraction;
-    }
-    fraction + 4503599627370496
-}
-
-// The s of a value m / 2^s below 2^43, by its exponent bits.
-fn scale(e: u64) -> u64
-    ensures { λ r. ⌜ (10 ≤ r) × (r ≤ 1074) ⌝ }
-{
-    if e == 0 {
-        return 1074;
-    }
-    if e > 1065 {
-        return 10;
-    }
-    1075 - e
-}
-
-// m / 2^s in units of 2^-20.
-fn in_units(m: u64, s: u64) -> u64 {
-    if s > 20 {
-        return nearest(m, s - 21);
-    }
-    m << (20 - s)
-}
-
 // A value's sign and size, to the nearest unit of 2^-20.
 pub fn fixed_of(pattern: u64) -> Fixed {
     let negative = pattern >= 0x8000_0000_0000_0000;
-    let e = exponent(pattern);
+    let e = decimals::exponent(pattern);
     if e == 2047 {
         if pattern % 4503599627370496 != 0 {
             return Fixed::NotANumber;
@@ -179,9 +125,9 @@ pub fn fixed_of(pattern: u64) -> Fixed {
     if e > 1065 {
         return Fixed::Huge(negative);
     }
-    let m = mantissa(pattern, e);
-    let s = scale(e);
-    Fixed::Units(negative, in_units(m, s))
+    let m = decimals::mantissa(pattern, e);
+    let s = decimals::scale(e);
+    Fixed::Units(negative, decimals::in_units(m, s))
 }
 
 // Writes the last six of seven digits.
@@ -209,62 +155,12 @@ fn put_millionths(fd: i32, negative: bool, x: u64, width: usize) {
     put_six(fd, &decimals[..six]);
 }
 
-// A whole number and millionths of it, as one number of millionths.
-fn joined(whole: u64, millionths: u64) -> u64 {
-    if whole > 17_592_186_044_416 {
-        return 0;
-    }
-    if millionths > 1_000_000 {
-        return 0;
-    }
-    whole * 1_000_000 + millionths
-}
-
 // Writes a sign and a number of units of 2^-20 with six decimals, at the right of a column.
 pub fn put_fixed(fd: i32, negative: bool, units: u64, width: usize) {
     let whole = units / 1048576;
     let part = units % 1048576;
     let millionths = (part * 1_000_000 + 524288) / 1048576;
-    put_millionths(fd, negative, joined(whole, millionths), width);
-}
-
-// The millionths of rest / 2^s, where that is below 1, for s of 33 or more: rest * 15625 * 2^6 / 2^s, by two halves of rest.
-fn fine_part(rest: u64, s: u64) -> u64 {
-    let low = rest % 67108864 * 15625;
-    let high = rest / 67108864 % 134217728 * 15625;
-    let product = high + low / 67108864;
-    if s < 33 {
-        return 0;
-    }
-    nearest(product, s - 33)
-}
-
-// The millionths of rest / 2^s, where that is below 1, for s of 10 to 32.
-fn coarse_part(rest: u64, s: u64) -> u64 {
-    let product = rest % 4294967296 * 31250;
-    if s < 6 {
-        return 0;
-    }
-    nearest(product, s - 6)
-}
-
-// The millionths of m / 2^s, to the nearest.
-fn millionths(m: u64, s: u64) -> u64 {
-    let whole = down(m, s);
-    let rest = below(m, s);
-    if s < 33 {
-        return joined(whole, coarse_part(rest, s));
-    }
-    joined(whole, fine_part(rest, s))
-}
-
-// What x / 2^k leaves.
-fn below(x: u64, k: u64) -> u64 {
-    if k > 63 {
-        return x;
-    }
-    let mask = std::num::wrapping_sub_u64(1 << k, 1);
-    x & mask
+    put_millionths(fd, negative, decimals::joined(whole, millionths), width);
 }
 
 // Writes a pattern as 0x and 16 digits, at the right of a column.
@@ -276,7 +172,7 @@ fn put_pattern(fd: i32, pattern: u64, width: usize) {
 
 // Writes a value at the right of a column: six decimals, to the nearest; a value of 2^43 or more as its pattern.
 pub fn put_value(fd: i32, pattern: u64, width: usize) {
-    let e = exponent(pattern);
+    let e = decimals::exponent(pattern);
     if e == 2047 {
         put_no_number(fd, pattern, width);
         return;
@@ -285,10 +181,10 @@ pub fn put_value(fd: i32, pattern: u64, width: usize) {
         put_pattern(fd, pattern, width);
         return;
     }
-    let m = mantissa(pattern, e);
-    let s = scale(e);
+    let m = decimals::mantissa(pattern, e);
+    let s = decimals::scale(e);
     let negative = pattern >= 0x8000_0000_0000_0000;
-    put_millionths(fd, negative, millionths(m, s), width);
+    put_millionths(fd, negative, decimals::millionths(m, s), width);
 }
 
 // A pattern whose exponent bits are all ones.
@@ -302,58 +198,6 @@ fn put_no_number(fd: i32, pattern: u64, width: usize) {
     }
 }
 
-// a and b are the same bytes.
-pub fn same(a: &[u8], b: &[u8]) -> bool {
-    if a.len() != b.len() {
-        return false;
-    }
-    let mut i = 0;
-    while i < a.len() {
-        if a[i] != b[i] {
-            return false;
-        }
-        i += 1;
-    }
-    true
-}
-
-// A byte that parts words: a space, a tab, or an end of line.
-fn is_blank(b: u8) -> bool {
-    b == 32 || b == 9 || b == 10 || b == 13
-}
-
-// The first place from `at` on that is not blank.
-fn skip_blanks(s: &[u8], at: usize) -> usize
-    requires { ⌜ at ≤ length (now s) ⌝ }
-    ensures { λ r. ⌜ (at ≤ r) × (r ≤ length (now (s .entry))) ⌝ }
-{
-    let mut i = at;
-    while i < s.len() {
-        let blank = is_blank(s[i]);
-        if !blank {
-            return i;
-        }
-        i += 1;
-    }
-    i
-}
-
-// The first place from `at` on that is blank.
-fn skip_word(s: &[u8], at: usize) -> usize
-    requires { ⌜ at ≤ length (now s) ⌝ }
-    ensures { λ r. ⌜ (at ≤ r) × (r ≤ length (now (s .entry))) ⌝ }
-{
-    let mut i = at;
-    while i < s.len() {
-        let blank = is_blank(s[i]);
-        if blank {
-            return i;
-        }
-        i += 1;
-    }
-    i
-}
-
 // The next word of s from `at` on; none, at the end of s, where no word is left.
 pub fn next_word(s: &[u8], at: usize) -> Word
     ensures { λ r. ⌜ (r .from ≤ r .to) × (r .to ≤ length (now (s .entry))) ⌝ }
@@ -364,8 +208,8 @@ pub fn next_word(s: &[u8], at: usize) -> Word
             to: s.len(),
         };
     }
-    let from = skip_blanks(s, at);
-    let to = skip_word(s, from);
+    let from = scan::skip_blanks(s, at);
+    let to = scan::skip_word(s, from);
     Word { from, to }
 }
 
@@ -408,57 +252,6 @@ pub fn parse_number(s: &[u8]) -> Parsed
     Parsed::Value(x)
 }
 
-// How many bytes s begins with that are digits.
-fn digits_of(s: &[u8]) -> usize
-    ensures { λ r. ⌜ r ≤ length (now (s .entry)) ⌝ }
-{
-    let mut i = 0;
-    while i < s.len() {
-        let b = s[i];
-        if b < 48 {
-            return i;
-        }
-        if b > 57 {
-            return i;
-        }
-        i += 1;
-    }
-    i
-}
-
-// How many nanoseconds a unit has; 0 where it is none.
-fn unit_size(unit: &[u8]) -> u64 {
-    if unit.len() == 0 {
-        return 1;
-    }
-    if same(unit, b"ns") {
-        return 1;
-    }
-    if same(unit, b"us") {
-        return 1_000;
-    }
-    if same(unit, b"ms") {
-        return 1_000_000;
-    }
-    if same(unit, b"s") {
-        return 1_000_000_000;
-    }
-    large_unit(unit)
-}
-
-fn large_unit(unit: &[u8]) -> u64 {
-    if same(unit, b"min") {
-        return 60_000_000_000;
-    }
-    if same(unit, b"h") {
-        return 3_600_000_000_000;
-    }
-    if same(unit, b"d") {
-        return 86_400_000_000_000;
-    }
-    0
-}
-
 // x units of a size, where the product is below 2^64.
 fn times(x: u64, size: u64) -> Parsed {
     if size == 0 {
@@ -472,11 +265,11 @@ fn times(x: u64, size: u64) -> Parsed {
 
 // A whole number with a unit of time, in nanoseconds: ns, us, ms, s, min, h, d; none is ns.
 pub fn parse_duration(s: &[u8]) -> Parsed {
-    let k = digits_of(s);
+    let k = scan::digits_of(s);
     let Parsed::Value(x) = parse_number(&s[..k]) else {
         return Parsed::Bad;
     };
-    let size = unit_size(&s[k..]);
+    let size = scan::unit_size(&s[k..]);
     times(x, size)
 }
 
@@ -561,19 +354,9 @@ fn pattern_of(s: &[u8]) -> Parsed {
     Parsed::Bad
 }
 
-// What a hexadecimal digit stands for; 16 where it is none.
-fn hex_digit(b: u8) -> u8 {
-    match b {
-        48..=57 => b - 48,
-        65..=70 => b - 55,
-        97..=102 => b - 87,
-        _ => 16,
-    }
-}
-
 // x with one hexadecimal digit more.
 fn with_hex(x: u64, b: u8) -> Parsed {
-    let d = hex_digit(b);
+    let d = scan::hex_digit(b);
     if d > 15 {
         return Parsed::Bad;
     }

@@ -1,10 +1,10 @@
--- `planning::store_hash` meets its contract: the place rises to the schema's end. Assumes nothing.
+-- `plan_rows::store_hash` meets its contract: the place rises to the schema's end. Assumes nothing.
 use native.Mathlib.Omega.{arith}
 use lib.ListN.{length}
 use Prim.Native.Nat.{_≤_, _-_}
 use mathlib.Core.Path.{_≡_}
-use Rattle.planning.proofs.store_hash.Statement.{statement}
-use Rattle.planning.proofs.store_hash.Tie as tie
+use Rattle.plan_rows.proofs.store_hash.Statement.{statement}
+use Rattle.plan_rows.proofs.store_hash.Tie as tie
 
 abbrev Inv-loop : tie.InvT-loop
 Inv-loop plan₀ first end h i₀ plan i = (first ≤ i) × (length plan ≡ length plan₀)

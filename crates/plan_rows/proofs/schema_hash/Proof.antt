@@ -1,8 +1,8 @@
--- `planning::schema_hash` meets its contract: the place rises to the schema's end. Assumes nothing.
+-- `plan_rows::schema_hash` meets its contract: the place rises to the schema's end. Assumes nothing.
 use Prim.Native.Nat.{_≤_, _-_}
 use native.Mathlib.Omega.{arith}
-use Rattle.planning.proofs.schema_hash.Statement.{statement}
-use Rattle.planning.proofs.schema_hash.Tie as tie
+use Rattle.plan_rows.proofs.schema_hash.Statement.{statement}
+use Rattle.plan_rows.proofs.schema_hash.Tie as tie
 
 abbrev Inv-loop : tie.InvT-loop
 Inv-loop plan first end h₀ i₀ h i = first ≤ i

@@ -1,9 +1,9 @@
--- `text::down` meets its contract: a quotient is at most what is divided. Assumes nothing.
+-- `decimals::down` meets its contract: a quotient is at most what is divided. Assumes nothing.
 use Prim.Native.Nat.{_^_}
 use native.Mathlib.Nat.{div-le-self}
 use borrow.Author.Needs.{needs}
-use Rattle.text.proofs.down.Statement.{statement}
-use Rattle.text.proofs.down.Tie as tie
+use Rattle.decimals.proofs.down.Statement.{statement}
+use Rattle.decimals.proofs.down.Tie as tie
 
 returns : tie.Need-returns
 returns c = search needs

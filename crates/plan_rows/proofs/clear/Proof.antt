@@ -1,10 +1,10 @@
--- `planning::clear` meets its contract: the place stays within the plan, whose length a store keeps. Assumes nothing.
+-- `plan_rows::clear` meets its contract: the place stays within the plan, whose length a store keeps. Assumes nothing.
 use lib.ListN.{length, length-set}
 use Prim.Native.Nat.{_≤_, _-_}
 use mathlib.Core.Path.{_≡_}
 use native.Mathlib.Omega.{arith}
-use Rattle.planning.proofs.clear.Statement.{statement}
-use Rattle.planning.proofs.clear.Tie as tie
+use Rattle.plan_rows.proofs.clear.Statement.{statement}
+use Rattle.plan_rows.proofs.clear.Tie as tie
 
 abbrev Inv-loop : tie.InvT-loop
 Inv-loop plan₀ i₀ plan i = (i ≤ length plan) × (length plan ≡ length plan₀)

@@ -1,10 +1,10 @@
--- `text::same` meets its contract: the place is within both, whose lengths are equal. Assumes nothing.
+-- `scan::same` meets its contract: the place is within both, whose lengths are equal. Assumes nothing.
 use mathlib.Core.Path.{_≡_}
 use borrow.Author.Needs.{needs}
 use lib.ListN.{length}
 use Prim.Native.Nat.{_≤_, _-_}
-use Rattle.text.proofs.same.Statement.{statement}
-use Rattle.text.proofs.same.Tie as tie
+use Rattle.scan.proofs.same.Statement.{statement}
+use Rattle.scan.proofs.same.Tie as tie
 
 abbrev Inv-loop : tie.InvT-loop
 Inv-loop a b i₀ i = (i ≤ length a) × (length a ≡ length b)

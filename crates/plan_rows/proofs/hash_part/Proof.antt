@@ -1,8 +1,8 @@
--- `planning::hash_part` meets its contract: the place rises to the part's end. Assumes nothing.
+-- `plan_rows::hash_part` meets its contract: the place rises to the part's end. Assumes nothing.
 use Prim.Native.Nat.{_≤_, _-_}
 use native.Mathlib.Omega.{arith}
-use Rattle.planning.proofs.hash_part.Statement.{statement}
-use Rattle.planning.proofs.hash_part.Tie as tie
+use Rattle.plan_rows.proofs.hash_part.Statement.{statement}
+use Rattle.plan_rows.proofs.hash_part.Tie as tie
 
 abbrev Inv-loop : tie.InvT-loop
 Inv-loop plan from to h x₀ i₀ x i = from ≤ i

@@ -1,9 +1,9 @@
--- `text::digits_of` meets its contract: the place stays within the bytes. Assumes nothing.
+-- `scan::digits_of` meets its contract: the place stays within the bytes. Assumes nothing.
 use borrow.Author.Needs.{needs}
 use lib.ListN.{length}
 use Prim.Native.Nat.{_≤_, _-_}
-use Rattle.text.proofs.digits_of.Statement.{statement}
-use Rattle.text.proofs.digits_of.Tie as tie
+use Rattle.scan.proofs.digits_of.Statement.{statement}
+use Rattle.scan.proofs.digits_of.Tie as tie
 
 abbrev Inv-loop : tie.InvT-loop
 Inv-loop s i₀ i = i ≤ length s

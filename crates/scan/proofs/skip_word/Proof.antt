@@ -1,9 +1,9 @@
--- `text::skip_blanks` meets its contract: the place stays between `at` and the end. Assumes nothing.
+-- `scan::skip_word` meets its contract: the place stays between `at` and the end. Assumes nothing.
 use borrow.Author.Needs.{needs}
 use lib.ListN.{length}
 use Prim.Native.Nat.{_≤_, _-_}
-use Rattle.text.proofs.skip_blanks.Statement.{statement}
-use Rattle.text.proofs.skip_blanks.Tie as tie
+use Rattle.scan.proofs.skip_word.Statement.{statement}
+use Rattle.scan.proofs.skip_word.Tie as tie
 
 abbrev Inv-loop : tie.InvT-loop
 Inv-loop s at i₀ i = (at ≤ i) × (i ≤ length s)
@@ -35,8 +35,8 @@ loop-again c = search needs
 returns-2 : tie.Need-returns-2 Inv-loop μ-loop
 returns-2 c = search needs
 
-pub skip-blanks-spec : {M : Type 1} → statement M
-skip-blanks-spec =
+pub skip-word-spec : {M : Type 1} → statement M
+skip-word-spec =
     tie.close
     (tie.spec
     Inv-loop
