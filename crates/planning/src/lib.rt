@@ -1,5 +1,6 @@
 // A plan from words: `series M tier INTERVAL RETENTION [FUNCTION] tier .. [schema series M tier ..]`, as bytes that creation takes.
 // Whether intervals rise and the like is creation's to say: here a plan is refused only for a word that cannot stand where it stands.
+pub use plan_words::put_expected;
 
 // The plan's length; or the place of the word that cannot stand there, and what was expected (`put_expected`).
 pub enum Planned {
@@ -29,92 +30,6 @@ enum Step {
     Bad(usize, usize, u32),
 }
 
-// Writes what was expected, in words.
-pub fn put_expected(fd: i32, n: u32) {
-    match n {
-        1 => text::put(fd, b"expected the word series"),
-        2 => text::put(fd, b"expected a number of series"),
-        3 => text::put(fd, b"expected the word tier"),
-        4 => text::put(fd, b"expected an interval, as 1s or 60s"),
-        5 => text::put(fd, b"expected a retention, as 1h or 30d"),
-        6 => text::put(fd, b"expected tier, schema or a function"),
-        7 => text::put(fd, b"at most 32 tiers fit"),
-        _ => text::put(fd, b"at most 8 schemas fit"),
-    }
-}
-
-// The word is `what`.
-fn is_word(line: &[u8], w: text::Word, what: &[u8]) -> bool {
-    let from = w.from;
-    let to = w.to;
-    if to > line.len() {
-        return false;
-    }
-    if from > to {
-        return false;
-    }
-    text::same(&line[from..to], what)
-}
-
-// The word as a number below 2^32.
-fn number_of(line: &[u8], w: text::Word) -> text::Parsed {
-    let from = w.from;
-    let to = w.to;
-    if to > line.len() {
-        return text::Parsed::Bad;
-    }
-    if from > to {
-        return text::Parsed::Bad;
-    }
-    let text::Parsed::Value(x) = text::parse_number(&line[from..to]) else {
-        return text::Parsed::Bad;
-    };
-    if x > 4294967295 {
-        return text::Parsed::Bad;
-    }
-    text::Parsed::Value(x)
-}
-
-// The word as a length of time.
-fn duration_of(line: &[u8], w: text::Word) -> text::Parsed {
-    let from = w.from;
-    let to = w.to;
-    if to > line.len() {
-        return text::Parsed::Bad;
-    }
-    if from > to {
-        return text::Parsed::Bad;
-    }
-    text::parse_duration(&line[from..to])
-}
-
-// The word's function by document 01's number; 0 where it is none.
-fn function_of(line: &[u8], w: text::Word) -> u64 {
-    if is_word(line, w, b"average") {
-        return 1;
-    }
-    if is_word(line, w, b"min") {
-        return 2;
-    }
-    if is_word(line, w, b"max") {
-        return 3;
-    }
-    if is_word(line, w, b"last") {
-        return 4;
-    }
-    late_function(line, w)
-}
-
-fn late_function(line: &[u8], w: text::Word) -> u64 {
-    if is_word(line, w, b"sum") {
-        return 5;
-    }
-    if is_word(line, w, b"count") {
-        return 6;
-    }
-    0
-}
-
 // The draft's schema is complete: its rows get their hash.
 fn close_schema(plan: &mut [u8], d: Draft) {
     let end = d.rows;
@@ -128,11 +43,11 @@ fn close_schema(plan: &mut [u8], d: Draft) {
 // `series M`, from the draft's place on.
 fn take_series(line: &[u8], d: Draft) -> Step {
     let w = text::next_word(line, d.at);
-    if !is_word(line, w, b"series") {
+    if !plan_words::is_word(line, w, b"series") {
         return Step::Bad(w.from, w.to, 1);
     }
     let m = text::next_word(line, w.to);
-    let text::Parsed::Value(x) = number_of(line, m) else {
+    let text::Parsed::Value(x) = plan_words::number_of(line, m) else {
         return Step::Bad(m.from, m.to, 2);
     };
     Step::Go(Draft {
@@ -175,7 +90,7 @@ fn take_function(
     plan: &mut [u8],
 ) -> Step {
     let f = text::next_word(line, at);
-    let function = function_of(line, f);
+    let function = plan_words::function_of(line, f);
     let t = Tier {
         interval,
         retention,
@@ -193,11 +108,11 @@ fn take_tier(line: &[u8], d: Draft, w: text::Word, plan: &mut [u8]) -> Step {
         return Step::Bad(w.from, w.to, 7);
     }
     let i = text::next_word(line, w.to);
-    let text::Parsed::Value(interval) = duration_of(line, i) else {
+    let text::Parsed::Value(interval) = plan_words::duration_of(line, i) else {
         return Step::Bad(i.from, i.to, 4);
     };
     let r = text::next_word(line, i.to);
-    let text::Parsed::Value(retention) = duration_of(line, r) else {
+    let text::Parsed::Value(retention) = plan_words::duration_of(line, r) else {
         return Step::Bad(r.from, r.to, 5);
     };
     take_function(line, d, interval, retention, r.to, plan)
@@ -224,13 +139,13 @@ fn take_schema(line: &[u8], d: Draft, w: text::Word, plan: &mut [u8]) -> Step {
 // The next word of a plan and what belongs to it.
 fn take_next(line: &[u8], d: Draft, plan: &mut [u8]) -> Step {
     let w = text::next_word(line, d.at);
-    if is_word(line, w, b"tier") {
+    if plan_words::is_word(line, w, b"tier") {
         return take_tier(line, d, w, plan);
     }
     if d.tier == 0 {
         return Step::Bad(w.from, w.to, 3);
     }
-    if is_word(line, w, b"schema") {
+    if plan_words::is_word(line, w, b"schema") {
         return take_schema(line, d, w, plan);
     }
     if w.from < w.to {
