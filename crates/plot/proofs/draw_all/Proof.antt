@@ -1,0 +1,58 @@
+-- A point a turn; the count of turns falls. Assumes nothing.
+use native.Mathlib.Omega.{arith}
+use borrow.Author.Needs.{needs}
+use Rattle.plot.proofs.draw_all.Statement.{statement}
+use Rattle.plot.proofs.draw_all.Tie as tie
+
+abbrev Inv-loop : tie.InvT-loop
+Inv-loop lows₀ highs₀ s slab column start end place₀ turns₀ lows highs place turns = Unit {0}
+
+abbrev μ-loop : tie.MeasureT-loop
+μ-loop lows₀ highs₀ s slab column start end place₀ turns₀ lows highs place turns = turns
+
+loop-holds : tie.Need-loop-holds Inv-loop μ-loop
+loop-holds c = tt
+
+step-requires : tie.Need-step-requires Inv-loop μ-loop
+step-requires c κs = tt
+
+enum-known-next : tie.Need-enum-known-next Inv-loop μ-loop
+enum-known-next c = search needs
+
+enum-told : tie.Need-enum-told Inv-loop μ-loop
+enum-told c = search needs
+
+returns : tie.Need-returns Inv-loop μ-loop
+returns c = tt
+
+draw-requires : tie.Need-draw-requires Inv-loop μ-loop
+draw-requires c κs = tt
+
+sub-turns : tie.Need-sub-turns Inv-loop μ-loop
+sub-turns c = omega arith
+
+loop-less : tie.Need-loop-less Inv-loop μ-loop
+loop-less c = omega arith
+
+loop-again : tie.Need-loop-again Inv-loop μ-loop
+loop-again c = tt
+
+returns-2 : tie.Need-returns-2 Inv-loop μ-loop
+returns-2 c = tt
+
+pub draw-all-spec : {M : Type 1} → statement M
+draw-all-spec =
+    tie.close
+    (tie.spec
+    Inv-loop
+    μ-loop
+    loop-holds
+    step-requires
+    enum-known-next
+    enum-told
+    returns
+    draw-requires
+    sub-turns
+    loop-less
+    loop-again
+    returns-2)
