@@ -43,8 +43,8 @@ fn bad_word(line: &[u8], from: usize, to: usize, expected: u32) {
     text::put(2, b"\n");
 }
 
-// The error line of a plan that is refused.
-fn bad_plan(refusal: u32) {
+// The error line of a plan that is refused, which says where.
+fn bad_plan(plan: &[u8], refusal: u32) {
     if refusal == 9 {
         text::put(
             2,
@@ -52,7 +52,16 @@ fn bad_plan(refusal: u32) {
         );
         return;
     }
-    arguments::refused(0, refusal);
+    text::put(2, b"history: ");
+    put_reason(plan, refusal);
+}
+
+// A refusal and its place, to the end of the line.
+fn put_reason(image: &[u8], refusal: u32) {
+    words::put_refusal(2, refusal);
+    text::put(2, b": ");
+    words::put_where(2, image, refusal);
+    text::put(2, b"\n");
 }
 
 // The length of an image, by its header.
@@ -82,7 +91,7 @@ fn create_planned(path: &[u8], plan: &[u8], buf: &mut [u8]) {
     let outcome = done.outcome;
     match outcome {
         model::Outcome::Accepted => keep_new(path, buf),
-        model::Outcome::Refused(r) => bad_plan(model::refusal_number(r)),
+        model::Outcome::Refused(r) => bad_plan(plan, model::refusal_number(r)),
     }
 }
 
@@ -146,10 +155,7 @@ fn bad_image(path: &[u8], image: &[u8], refusal: u32) {
     text::put(2, b"history: ");
     text::put(2, path);
     text::put(2, b": ");
-    words::put_refusal(2, refusal);
-    text::put(2, b", ");
-    words::put_where(2, image, refusal);
-    text::put(2, b"\n");
+    put_reason(image, refusal);
 }
 
 // The commands that write.

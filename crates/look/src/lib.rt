@@ -187,12 +187,12 @@ pub fn show(image: &[u8], flags: model::Flags) {
 fn put_tables(image: &[u8], flags: model::Flags, n: usize) {
     text::put(
         1,
-        b"#row schema tier    interval   retention  function  series      slots\n",
+        b"# row schema tier    interval   retention  function  series      slots\n",
     );
     put_rows(image, flags, n, false);
     text::put(
         1,
-        b"#row schema tier       used               oldest               newest                 mark  wrapped\n",
+        b"# row schema tier       used               oldest               newest                 mark  wrapped\n",
     );
     put_rows(image, flags, n, true);
 }
