@@ -78,6 +78,14 @@ pub enum Call {
         start: u64,
         end: u64,
     },
+    /// A reader made by hand steps over a part of the image: only for sides on lent bytes.
+    Next {
+        part: (usize, usize),
+        column: u32,
+        range: (u64, u64),
+        /// Slot, and slots left: more than the part's header has slots for counts from 0 again.
+        place: (u64, u64),
+    },
     Consolidate,
     Open,
     /// Someone else writes into a row's slab: no call of the library.
@@ -160,6 +168,11 @@ pub enum Answer {
         /// Stamp and value pattern.
         points: Vec<(u64, u64)>,
     },
+    /// A reader's step: what it handed out, and where it stands then.
+    Stepped {
+        point: Option<(u64, u64)>,
+        place: (u64, u64),
+    },
     /// The side came to a stop with this message.
     Panicked(String),
 }
@@ -187,8 +200,7 @@ pub enum Kind {
     Engine,
 }
 
-/// One implementation, with the store that it holds between calls. To set a third one beside
-/// these (`libedge.a`), implement `sides::Library` and add it in `sides::all`.
+/// One implementation, with the store that it holds between calls.
 pub trait Side {
     fn name(&self) -> &'static str;
     fn kind(&self) -> Kind;

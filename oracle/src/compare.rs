@@ -66,6 +66,7 @@ fn asked(kind: Kind, call: &Call, leader: &Answer) -> Asked {
     };
     match (kind, call) {
         (Kind::Whole, _) => Asked::Yes,
+        (_, Call::Next { .. }) => Asked::Pass,
         (Kind::Engine, Call::Query { .. } | Call::Auto { .. }) => Asked::Pass,
         (_, Call::Consolidate) if refused == 10 => Asked::Stop,
         (_, Call::Open) if refused != 0 => Asked::Stop,
@@ -135,7 +136,7 @@ fn frame(call: &Call, answer: &Answer, before: &State, after: &State) -> Option<
         return None;
     }
     let still = matches!(answer, Answer::Refused(_)) && *call != Call::Consolidate;
-    let reads = matches!(call, Call::Query { .. } | Call::Auto { .. });
+    let reads = matches!(call, Call::Query { .. } | Call::Auto { .. } | Call::Next { .. });
     if still || reads {
         return Some("a refused or reading call changed bytes or flags".to_string());
     }

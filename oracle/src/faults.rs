@@ -107,6 +107,10 @@ impl Library for Faulty {
         answer
     }
 
+    fn next(&self, slab: &[u8], column: u32, range: (u64, u64), place: (u64, u64)) -> Answer {
+        Plain.next(slab, column, range, place)
+    }
+
     fn consolidate(&self, image: &mut [u8], flags: &mut Flags) -> Answer {
         let before = image.to_vec();
         let answer = Plain.consolidate(image, flags);

@@ -2,6 +2,7 @@
 
 mod calls;
 mod compare;
+mod edge;
 #[cfg(test)]
 mod faults;
 mod generate;

@@ -451,6 +451,27 @@ fn reader(slab: &[u8], wrapped: bool, column: usize, range: (u64, u64)) -> Reade
     Reader { slab, column, range, slot: order.first().copied().unwrap_or(0), left: order.len() }
 }
 
+/// A step of a reader made by hand: one outside its slab is at its end, and reads nothing.
+pub fn next(
+    slab: &[u8],
+    column: u32,
+    range: (u64, u64),
+    (slot, left): (u64, u64),
+) -> (Option<(u64, u64)>, (u64, u64)) {
+    let held = |(n, m): (u128, u128)| 64 + 4 * m + 8 * n + 8 * n * m <= slab.len() as u128;
+    let inside = slab.len() >= 64
+        && held((slots(slab) as u128, series(slab) as u128))
+        && (column as usize) < series(slab)
+        && slot < slots(slab) as u64;
+    if !inside {
+        return (None, (slot, 0));
+    }
+    let (column, slot, left) = (column as usize, slot as usize, left as usize);
+    let mut reader = Reader { slab, column, range, slot, left };
+    let point = reader.next();
+    (point, (reader.slot as u64, reader.left as u64))
+}
+
 /// (full, may be incomplete)
 pub fn coverage(oldest: Option<u64>, newest: Option<u64>, range: (u64, u64)) -> (bool, bool) {
     match (oldest, newest) {

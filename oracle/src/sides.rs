@@ -4,6 +4,7 @@ use std::panic::{AssertUnwindSafe, catch_unwind};
 use std::path::PathBuf;
 
 use crate::calls::{Answer, Call, Cell, Kind, Plan, Side, State, entry_bytes};
+use crate::edge::Edge;
 use crate::plain::{self, Flags, HEADER, ROW};
 
 /// The Rust as published.
@@ -18,10 +19,10 @@ pub mod ordered {
     include!("rust_side.rs");
 }
 
-/// All sides but the plain one, which leads. The proved library goes in here:
-/// `Box::new(Lent::new("edge", Edge))`, with `Edge` a `Library` over libedge.a.
+/// All sides but the plain one, which leads.
 pub fn all() -> Vec<Box<dyn Side>> {
     vec![
+        Box::new(Lent::new("library", Edge)),
         Box::new(ordered::Rust::new("ordered", Kind::Store)),
         Box::new(ordered::Rust::new("engine", Kind::Engine)),
         Box::new(published::Rust::new("published", Kind::Store)),
@@ -44,6 +45,8 @@ pub trait Library {
         tier: Option<u32>,
         range: (u64, u64),
     ) -> Answer;
+    /// One step of a reader made by hand.
+    fn next(&self, slab: &[u8], column: u32, range: (u64, u64), place: (u64, u64)) -> Answer;
     fn consolidate(&self, image: &mut [u8], flags: &mut Flags) -> Answer;
 }
 
@@ -91,6 +94,11 @@ impl Library for Plain {
                 points: a.reader.collect(),
             },
         }
+    }
+
+    fn next(&self, slab: &[u8], column: u32, range: (u64, u64), place: (u64, u64)) -> Answer {
+        let (point, place) = plain::next(slab, column, range, place);
+        Answer::Stepped { point, place }
     }
 
     fn consolidate(&self, image: &mut [u8], flags: &mut Flags) -> Answer {
@@ -169,6 +177,10 @@ impl<L: Library> Side for Lent<L> {
             &Call::Auto { schema, column, start, end } => {
                 library.query(image, flags, (schema, column), None, (start, end))
             }
+            &Call::Next { part, column, range, place } => {
+                let (slab, place) = by_hand(image, part, place);
+                library.next(slab, column, range, place)
+            }
             Call::Consolidate => library.consolidate(image, flags),
             Call::Open => answered(library.open(image, flags)),
             &Call::Poke { row, cell } => {
@@ -191,6 +203,15 @@ impl<L: Library> Side for Lent<L> {
         state.lent = Some((self.image.clone(), self.flags));
         state
     }
+}
+
+/// A part of the image, as far as it is there, and a place with no more slots left than its
+/// header has.
+fn by_hand(image: &[u8], part: (usize, usize), place: (u64, u64)) -> (&[u8], (u64, u64)) {
+    let to = part.1.min(image.len());
+    let slab = &image[part.0.min(to)..to];
+    let slots = if slab.len() < 20 { 0 } else { plain::get32(slab, 16) as u64 };
+    (slab, (place.0, place.1 % (slots + 1)))
 }
 
 /// Writes a cell into an image's slab, or its mark into the row.
@@ -255,7 +276,9 @@ pub fn guarded(f: impl FnOnce() -> Answer) -> Answer {
 /// A folder in memory for a side's files.
 pub fn scratch(name: &str) -> PathBuf {
     let base = std::env::var("ORACLE_DIR").unwrap_or_else(|_| "/dev/shm".to_string());
-    let dir = PathBuf::from(base).join(format!("rondo-oracle-{}-{name}", std::process::id()));
+    let thread = format!("{:?}", std::thread::current().id()).replace(['(', ')'], "-");
+    let id = format!("rondo-oracle-{}-{thread}{name}", std::process::id());
+    let dir = PathBuf::from(base).join(id);
     let _ = std::fs::remove_dir_all(&dir);
     std::fs::create_dir_all(&dir).expect("a folder for the Rust's files");
     dir
