@@ -179,13 +179,13 @@ pub enum Answer {
 
 /// What a side holds after a call, row by row.
 #[derive(Clone, Debug, Default, PartialEq, Eq)]
-pub struct State {
-    pub slabs: Vec<Vec<u8>>,
+pub struct State<'a> {
+    pub slabs: Vec<&'a [u8]>,
     pub flags: Vec<bool>,
     /// 0 is no mark. The last tier of a schema has none.
     pub marks: Vec<u64>,
     /// The lent bytes and flags as a whole, where the side works on such.
-    pub lent: Option<(Vec<u8>, Flags)>,
+    pub lent: Option<(&'a [u8], Flags)>,
 }
 
 /// How far a side follows document 01: where not, the driver does not ask it.
@@ -211,7 +211,7 @@ pub trait Side {
         unreachable!("only sides on lent bytes")
     }
     fn call(&mut self, call: &Call) -> Answer;
-    fn state(&mut self) -> State;
+    fn state(&self) -> State<'_>;
     /// Sets the marks, where a refused run lost them (`Kind::Store`).
     fn set_marks(&mut self, _marks: &[u64]) {}
 }

@@ -2,7 +2,7 @@
 //! shows a difference as small as it can.
 
 use crate::calls::{Answer, Call, Kind, Plan, Side, State, Tier};
-use crate::plain::{HEADER, ROW, infinite};
+use crate::plain::{Flags, HEADER, ROW, infinite};
 use crate::sides::{Lent, Plain, lent_flags, published};
 
 #[derive(Clone, Debug, PartialEq, Eq)]
@@ -39,6 +39,9 @@ pub struct Tally {
     pub lists: u64,
     /// Calls answered by the plain side, creations included.
     pub calls: u64,
+    /// Answers of the proved library held against the plain side's.
+    pub library: u64,
+    /// Answers of the Rust's sides held against them.
     pub compared: u64,
     pub points: u64,
     pub refusals: [u64; 17],
@@ -48,6 +51,24 @@ pub struct Tally {
     pub by_hash_order: u64,
     /// Refused runs that lost a finished pair's mark in the Rust.
     pub marks_lost: u64,
+}
+
+impl Tally {
+    fn count(&mut self, kind: Kind) {
+        *(if kind == Kind::Whole { &mut self.library } else { &mut self.compared }) += 1;
+    }
+
+    pub fn add(&mut self, t: &Tally) {
+        self.lists += t.lists;
+        self.calls += t.calls;
+        self.library += t.library;
+        self.compared += t.compared;
+        self.points += t.points;
+        self.not_asked += t.not_asked;
+        self.by_hash_order += t.by_hash_order;
+        self.marks_lost += t.marks_lost;
+        self.refusals.iter_mut().zip(t.refusals).for_each(|(a, b)| *a += b);
+    }
 }
 
 enum Asked {
@@ -89,11 +110,18 @@ fn asked(kind: Kind, call: &Call, leader: &Answer) -> Asked {
 
 /// Where two states differ first, in words.
 fn unlike(ours: &State, theirs: &State) -> Option<String> {
+    unlike_but(ours, theirs, &ours.marks)
+}
+
+/// The same, with these marks wanted.
+fn unlike_but(ours: &State, theirs: &State, marks: &[u64]) -> Option<String> {
     for (row, (a, b)) in ours.slabs.iter().zip(&theirs.slabs).enumerate() {
         if a.len() != b.len() {
             return Some(format!("row {row}: slab length {} and {}", a.len(), b.len()));
         }
-        if let Some(i) = (0..a.len()).find(|&i| a[i] != b[i]) {
+        if a != b
+            && let Some(i) = (0..a.len()).find(|&i| a[i] != b[i])
+        {
             let i = i.min(a.len().saturating_sub(8)) & !3;
             return Some(format!(
                 "row {row}, slab byte {i}: {:02x?} and {:02x?}",
@@ -108,8 +136,8 @@ fn unlike(ours: &State, theirs: &State) -> Option<String> {
     if ours.flags != theirs.flags {
         return Some(format!("flags {:?} and {:?}", ours.flags, theirs.flags));
     }
-    if ours.marks != theirs.marks {
-        return Some(format!("marks {:?} and {:?}", ours.marks, theirs.marks));
+    if marks != theirs.marks {
+        return Some(format!("marks {marks:?} and {:?}", theirs.marks));
     }
     if let (Some(a), Some(b)) = (&ours.lent, &theirs.lent)
         && a != b
@@ -119,17 +147,35 @@ fn unlike(ours: &State, theirs: &State) -> Option<String> {
     None
 }
 
+/// What a side on lent bytes held before a call.
+#[derive(Default)]
+struct Before {
+    image: Vec<u8>,
+    flags: Flags,
+    marks: Vec<u64>,
+}
+
+impl Before {
+    fn take(&mut self, s: &State) {
+        let (image, flags) = s.lent.as_ref().unwrap();
+        self.image.clear();
+        self.image.extend_from_slice(image);
+        self.flags = *flags;
+        self.marks.clone_from(&s.marks);
+    }
+}
+
 /// What must hold of a side that works on lent bytes, whatever the others say: a refusal
 /// changes nothing, but for consolidation; header and rows (marks aside), the surplus and
 /// the flags past R stay.
-fn frame(call: &Call, answer: &Answer, before: &State, after: &State) -> Option<String> {
+fn frame(call: &Call, answer: &Answer, before: &Before, after: &State) -> Option<String> {
     if matches!(call, Call::Poke { .. } | Call::Damage { .. } | Call::Cut { .. }) {
         return None;
     }
     if let Answer::Panicked(text) = answer {
         return Some(format!("panicked: {text}"));
     }
-    let (Some((a, f)), Some((b, g))) = (&before.lent, &after.lent) else {
+    let ((a, f), Some((b, g))) = ((&before.image, &before.flags), &after.lent) else {
         return None;
     };
     if a == b && f == g {
@@ -140,7 +186,7 @@ fn frame(call: &Call, answer: &Answer, before: &State, after: &State) -> Option<
     if still || reads {
         return Some("a refused or reading call changed bytes or flags".to_string());
     }
-    let rows = before.flags.len();
+    let rows = after.flags.len();
     let mark = |i: usize| i >= HEADER && (48..56).contains(&((i - HEADER) % ROW));
     let head = HEADER + ROW * rows;
     let total = crate::plain::get64(a, 16) as usize;
@@ -185,17 +231,18 @@ pub fn run(list: &List, sides: &mut [Box<dyn Side>], tally: &mut Tally) -> Optio
     tally.lists += 1;
     tally.calls += 1;
     let made = create(&mut leader, list);
-    let mut before = leader.state();
+    let mut before = Before::default();
+    before.take(&leader.state());
     let differs = |at, side, what| Some(Difference { at, side, what });
     if let Answer::Refused(n) = made {
         tally.refusals[n as usize] += 1;
-        let (image, flags) = before.lent.as_ref().unwrap();
-        if image.iter().any(|&b| b != 0xa5) || *flags != lent_flags() {
+        if before.image.iter().any(|&b| b != 0xa5) || before.flags != lent_flags() {
             return differs(0, leader.name(), "a refused creation changed something".to_string());
         }
         for side in sides.iter_mut().filter(|s| s.kind() == Kind::Whole) {
             let theirs = create(side.as_mut(), list);
-            if theirs != made || side.state().lent != before.lent {
+            tally.library += 1;
+            if theirs != made || side.state().lent != leader.state().lent {
                 return differs(0, side.name(), format!("creation: {made:?} and {theirs:?}"));
             }
         }
@@ -214,12 +261,11 @@ pub fn run(list: &List, sides: &mut [Box<dyn Side>], tally: &mut Tally) -> Optio
     if let Answer::Panicked(text) = made {
         return differs(0, leader.name(), format!("creation panicked: {text}"));
     }
-    let rows = before.flags.len();
-    let (image, flags) = before.lent.as_ref().unwrap();
-    let total = crate::plain::get64(image, 16) as usize;
-    if before.flags.iter().any(|&f| f)
-        || flags[rows..] != lent_flags()[rows..]
-        || image[total..].iter().any(|&b| b != 0xa5)
+    let rows = before.marks.len();
+    let total = crate::plain::get64(&before.image, 16) as usize;
+    if before.flags[..rows].iter().any(|&f| f)
+        || before.flags[rows..] != lent_flags()[rows..]
+        || before.image[total..].iter().any(|&b| b != 0xa5)
     {
         return differs(0, leader.name(), "creation: flags or surplus".to_string());
     }
@@ -229,10 +275,10 @@ pub fn run(list: &List, sides: &mut [Box<dyn Side>], tally: &mut Tally) -> Optio
         if theirs != made {
             return differs(0, side.name(), format!("creation: {made:?} and {theirs:?}"));
         }
-        if let Some(what) = unlike(&before, &side.state()) {
+        if let Some(what) = unlike(&leader.state(), &side.state()) {
             return differs(0, side.name(), format!("creation: {what}"));
         }
-        tally.compared += 1;
+        tally.count(side.kind());
     }
     for (i, call) in list.calls.iter().enumerate() {
         let ours = leader.call(call);
@@ -263,18 +309,15 @@ pub fn run(list: &List, sides: &mut [Box<dyn Side>], tally: &mut Tally) -> Optio
                     continue;
                 }
             };
-            tally.compared += 1;
+            tally.count(side.kind());
             let lost = side.kind() == Kind::Store
                 && *call == Call::Consolidate
                 && matches!(ours, Answer::Refused(_));
-            let mut wanted = after.clone();
-            if lost {
-                wanted.marks = before.marks.clone();
-            }
+            let marks = if lost { &before.marks } else { &after.marks };
             let what = if ours != theirs {
                 Some(format!("{} and {}", words(&ours), words(&theirs)))
             } else {
-                unlike(&wanted, &side.state())
+                unlike_but(&after, &side.state(), marks)
             };
             if let Some(what) = what {
                 let several = matches!(ours, Answer::Count(2..) | Answer::Refused(12 | 13 | 16));
@@ -290,7 +333,7 @@ pub fn run(list: &List, sides: &mut [Box<dyn Side>], tally: &mut Tally) -> Optio
                 side.set_marks(&after.marks);
             }
         }
-        before = after;
+        before.take(&after);
     }
     None
 }

@@ -61,12 +61,8 @@ unsafe extern "C" {
         place: *mut [u64; 2],
         point: *mut [u64; 2],
     ) -> u32;
-    fn rondo_consolidate(
-        image: *mut u8,
-        image_len: usize,
-        flags: *mut u32,
-        count: *mut u64,
-    ) -> u32;
+    fn rondo_consolidate(image: *mut u8, image_len: usize, flags: *mut u32, count: *mut u64)
+    -> u32;
 }
 
 pub struct Edge;

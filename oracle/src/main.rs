@@ -22,21 +22,44 @@ fn argument(name: &str, otherwise: u64) -> u64 {
     args.next().map_or(otherwise, |x| x.parse().expect("a number"))
 }
 
+/// What one thread compares: of all lists, every `threads`-th.
 pub struct Session {
     sides: Vec<Box<dyn Side>>,
     tally: Tally,
     found: u64,
+    thread: u64,
+    threads: u64,
+    /// The next list's number.
+    number: u64,
+    parts: Vec<(String, Tally, f64)>,
 }
 
 impl Session {
-    /// Compares on one list. False once enough differences were found.
+    fn new(thread: u64, threads: u64) -> Self {
+        let (sides, tally, parts) = (sides::all(), Tally::default(), Vec::new());
+        Self { sides, tally, found: 0, thread, threads, number: 0, parts }
+    }
+
+    /// Whether what comes next is this thread's.
+    pub fn own(&mut self) -> bool {
+        self.number += 1;
+        self.number % self.threads == self.thread
+    }
+
+    /// Compares on one list, if it is this thread's. False once enough differences were found.
     pub fn list(&mut self, list: List) -> bool {
+        if self.own() {
+            self.compare(list);
+        }
+        self.found < 5
+    }
+
+    pub fn compare(&mut self, list: List) {
         if let Some(d) = run(&list, &mut self.sides, &mut self.tally) {
             let (list, d) = shrink(&list, &mut self.sides, d);
             show(&list, &d);
             self.found += 1;
         }
-        self.found < 5
     }
 
     /// A difference found outside of a list.
@@ -51,10 +74,18 @@ impl Session {
         if !only.is_empty() && only[0] != name {
             return;
         }
-        let (start, before) = (Instant::now(), self.tally.clone());
+        let (start, whole) = (Instant::now(), std::mem::take(&mut self.tally));
         part(self);
-        let (lists, calls) = (self.tally.lists - before.lists, self.tally.calls - before.calls);
-        println!("{name}: {lists} lists, {calls} calls, {:.1} s", start.elapsed().as_secs_f64());
+        let own = std::mem::replace(&mut self.tally, whole);
+        self.tally.add(&own);
+        self.parts.push((name.to_string(), own, start.elapsed().as_secs_f64()));
+    }
+
+    /// A part that is not made of lists: the first thread's.
+    fn alone(&mut self, name: &str, part: impl FnOnce(&mut Self)) {
+        if self.thread == 0 {
+            self.part(name, part);
+        }
     }
 }
 
@@ -124,6 +155,23 @@ fn exhaustive(s: &mut Session) {
     }
 }
 
+/// The same on fewer plans with any number of series, odd ones too: for sides on lent bytes.
+fn exhaustive_any_series(s: &mut Session) {
+    for (series, n, k) in [(1, 1, 1), (1, 2, 2), (1, 3, 1), (1, 4, 3), (3, 2, 1), (3, 3, 2)] {
+        let mut plan = one_schema(&[(1, n, 0), (2, k, 1)]);
+        plan.0[0].series = series;
+        let raw = Some((plan.bytes(|_| 7), sides::room(&plan)));
+        let mut stock: Vec<Call> =
+            [1, 2, 3, 4, 5, 7].map(|t| record(t as u32 % series, t, t as f64)).to_vec();
+        stock.extend([Call::Consolidate, Call::Open]);
+        generate::every(&plan, &stock, 4, |mut list| {
+            list.raw.clone_from(&raw);
+            list.calls.extend([all_time(0), all_time(1)]);
+            s.list(list)
+        });
+    }
+}
+
 /// Every range and tier of a few filled stores.
 fn ranges(s: &mut Session, seed: u64) {
     for i in 0..20 {
@@ -145,55 +193,65 @@ fn ranges(s: &mut Session, seed: u64) {
     }
 }
 
-fn main() {
-    sides::quiet_sides();
-    let seed = argument("--seed", 1);
-    let lists = argument("--lists", 4000);
-    let length = argument("--length", 60);
-    println!("seed {seed}");
-    let mut s = Session { sides: sides::all(), tally: Tally::default(), found: 0 };
-    let start = Instant::now();
+/// All parts, as far as they are this thread's.
+fn parts(s: &mut Session, seed: u64, lists: u64, length: u64) {
     let random = |i: u64| Random(seed.wrapping_mul(1 << 40).wrapping_add(i));
+    let each = |s: &mut Session, count: u64, make: &dyn Fn(&mut Random) -> List| {
+        for i in 0..count {
+            let _ = s.found < 5 && s.list(make(&mut random(i)));
+        }
+    };
+    s.alone("windows", |s| special::windows(s, &mut random(0)));
+    s.alone("coverage", special::coverage);
     s.part("cases", special::cases);
-    s.part("windows", |s| special::windows(s, &mut random(0)));
-    s.part("coverage", special::coverage);
     s.part("exhaustive", exhaustive);
+    s.part("exhaustive, any series", exhaustive_any_series);
     s.part("ranges", |s| ranges(s, seed));
-    s.part("plans", |s| {
-        for i in 0..5 * lists {
-            let _ = s.found < 5 && s.list(generate::odd_plan(&mut random(i)));
-        }
-    });
-    s.part("random", |s| {
-        for i in 0..lists {
-            let _ = s.found < 5 && s.list(generate::list(&mut random(i), length, false));
-        }
-    });
-    s.part("poked", |s| {
-        for i in 0..lists {
-            let _ = s.found < 5 && s.list(generate::list(&mut random(i), length, true));
-        }
-    });
-    s.part("any series", |s| {
-        for i in 0..lists {
-            let _ = s.found < 5 && s.list(generate::any_series(&mut random(i), length));
-        }
-    });
-    s.part("damaged", |s| {
-        for i in 0..10 * lists {
-            let _ = s.found < 5 && s.list(generate::damaged(&mut random(i)));
-        }
-    });
+    s.part("plans", |s| each(s, 5 * lists, &generate::odd_plan));
+    s.part("random", |s| each(s, lists, &|r| generate::list(r, length, false)));
+    s.part("poked", |s| each(s, lists, &|r| generate::list(r, length, true)));
+    s.part("any series", |s| each(s, lists, &|r| generate::any_series(r, length)));
+    s.part("readers", |s| each(s, lists, &|r| generate::readers(r, length)));
+    s.part("damaged", |s| each(s, 10 * lists, &generate::damaged));
     s.part("large", special::large);
     s.part("third demand", |s| {
         for i in 0..lists / 20 {
             special::third_demand(s, &mut random(i));
         }
     });
-    s.part("openings", special::openings);
-    s.part("hash order", special::hash_order);
-    s.part("departures", special::departures);
-    let t = &s.tally;
+    s.alone("openings", special::openings);
+    s.alone("hash order", special::hash_order);
+    s.alone("departures", special::departures);
+}
+
+fn main() {
+    sides::quiet_sides();
+    let seed = argument("--seed", 1);
+    let lists = argument("--lists", 40_000);
+    let length = argument("--length", 60);
+    let threads = argument("--threads", 2);
+    println!("seed {seed}");
+    let start = Instant::now();
+    let worker = |thread: u64| {
+        let mut s = Session::new(thread, threads);
+        parts(&mut s, seed, lists, length);
+        (s.parts, s.found)
+    };
+    let done: Vec<_> = std::thread::scope(|scope| {
+        let each: Vec<_> = (0..threads).map(|t| scope.spawn(move || worker(t))).collect();
+        each.into_iter().map(|t| t.join().expect("a thread")).collect()
+    });
+    let mut t = Tally::default();
+    for (name, ..) in &done[0].0 {
+        let (mut own, mut seconds) = (Tally::default(), 0.0);
+        for (_, tally, spent) in done.iter().flat_map(|d| &d.0).filter(|p| p.0 == *name) {
+            own.add(tally);
+            seconds += spent;
+        }
+        t.add(&own);
+        println!("{name}: {} lists, {} calls, {seconds:.1} s of a thread", own.lists, own.calls);
+    }
+    let found: u64 = done.iter().map(|d| d.1).sum();
     println!("refusals 1 to 16: {:?}", &t.refusals[1..]);
     println!("{} points handed out, {} calls not asked of a side", t.points, t.not_asked);
     println!(
@@ -201,14 +259,12 @@ fn main() {
         t.by_hash_order, t.marks_lost
     );
     println!(
-        "seed {seed}: {} lists, {} calls, {} comparisons, {} differences, {:.1} s",
+        "seed {seed}: {} lists, {} calls, compared {} of the library and {} of the Rust, {found} differences, {:.1} s",
         t.lists,
         t.calls,
+        t.library,
         t.compared,
-        s.found,
         start.elapsed().as_secs_f64()
     );
-    let found = s.found;
-    drop(s);
     std::process::exit((found > 0) as i32);
 }

@@ -198,9 +198,9 @@ impl<L: Library> Side for Lent<L> {
         })
     }
 
-    fn state(&mut self) -> State {
+    fn state(&self) -> State<'_> {
         let mut state = split(&self.image, &self.flags);
-        state.lent = Some((self.image.clone(), self.flags));
+        state.lent = Some((&self.image, self.flags));
         state
     }
 }
@@ -229,7 +229,7 @@ fn poke(image: &mut [u8], row: usize, cell: Cell) {
 }
 
 /// An image and its flags, row by row; nothing where the image is not in order.
-fn split(image: &[u8], flags: &Flags) -> State {
+pub fn split<'a>(image: &'a [u8], flags: &Flags) -> State<'a> {
     let mut state = State::default();
     let rows = if image.len() < HEADER { 0 } else { plain::get32(image, 12) as usize };
     if rows > 32 || image.len() < HEADER + ROW * rows {
@@ -239,7 +239,7 @@ fn split(image: &[u8], flags: &Flags) -> State {
         let at = HEADER + ROW * i;
         let (offset, length) = (plain::get64(image, at + 32), plain::get64(image, at + 40));
         let place = offset as usize..offset.saturating_add(length) as usize;
-        state.slabs.push(image.get(place).unwrap_or(&[]).to_vec());
+        state.slabs.push(image.get(place).unwrap_or(&[]));
         state.flags.push(flag);
         state.marks.push(plain::get64(image, at + 48));
     }
