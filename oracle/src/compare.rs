@@ -71,7 +71,7 @@ impl Tally {
     }
 }
 
-enum Asked {
+pub enum Asked {
     Yes,
     This(Call),
     /// The side lacks this refusal and nothing has changed.
@@ -80,7 +80,7 @@ enum Asked {
     Stop,
 }
 
-fn asked(kind: Kind, call: &Call, leader: &Answer) -> Asked {
+pub fn asked(kind: Kind, call: &Call, leader: &Answer) -> Asked {
     let refused = match leader {
         Answer::Refused(n) => *n,
         _ => 0,

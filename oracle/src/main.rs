@@ -9,6 +9,7 @@ mod generate;
 mod plain;
 mod sides;
 mod special;
+mod stored;
 
 use std::time::Instant;
 
@@ -230,6 +231,9 @@ fn main() {
     let lists = argument("--lists", 40_000);
     let length = argument("--length", 60);
     let threads = argument("--threads", 2);
+    if let Some(folder) = std::env::args().skip_while(|a| a != "--store").nth(1) {
+        return stored::write(&folder, seed);
+    }
     println!("seed {seed}");
     let start = Instant::now();
     let worker = |thread: u64| {

@@ -1,0 +1,368 @@
+//! Writes the list of calls that the program `replay` carries out, with the Rust's answers, and
+//! what that program must print. How the list is laid out: ../../crates/replay/README.md.
+
+use crate::calls::{Answer, Call, Cell, Kind, Plan, Schema, Side, Tier, entry_bytes};
+use crate::compare::{Asked, List, asked};
+use crate::generate::{self, INFINITY, Random};
+use crate::plain::{Flags, HEADER, ROW, get64, put64};
+use crate::sides::{Lent, Plain, ordered, published};
+use crate::special;
+
+const BLOCK: usize = 65536;
+/// The program lends an image of this length.
+const IMAGE: usize = 65536;
+
+/// The sum that the program takes of the image's bytes.
+fn sum(bytes: &[u8]) -> u64 {
+    bytes.iter().fold(0, |sum, &b| (sum * 257 + b as u64 + 1) % 4_294_967_291)
+}
+
+/// What the list has in it, so that nothing is left out unseen.
+#[derive(Default)]
+pub struct Stock {
+    pub refusals: [u64; 17],
+    pub functions: [u64; 7],
+    /// Calls after which some ring had wrapped, runs with several writes, points handed out.
+    pub wrapped: u64,
+    pub several: u64,
+    pub points: u64,
+}
+
+struct Writer {
+    bytes: Vec<u8>,
+    printed: String,
+    group: u64,
+    all: u64,
+    stock: Stock,
+    store: ordered::Rust,
+    engine: ordered::Rust,
+    /// What the program holds: the image's bytes by the Rust, and the flags.
+    image: Vec<u8>,
+    flags: Flags,
+    rows: usize,
+}
+
+impl Writer {
+    /// Puts an item into the list; none reaches from one block into the next.
+    fn put(&mut self, kind: u64, refused: u32, rest: &[u8]) {
+        let mut item = vec![0; 48];
+        put64(&mut item, 0, 48 + rest.len() as u64);
+        put64(&mut item, 8, kind);
+        put64(&mut item, 16, refused as u64);
+        put64(&mut item, 24, self.image.len() as u64);
+        put64(&mut item, 32, sum(&self.image));
+        let flags = self.flags.iter().enumerate().map(|(i, &f)| (f as u64) << i).sum();
+        put64(&mut item, 40, flags);
+        item.extend(rest);
+        assert!(item.len() <= BLOCK);
+        let room = BLOCK - self.bytes.len() % BLOCK;
+        if room < item.len() {
+            self.bytes.extend(vec![0; room]);
+        }
+        self.bytes.extend(item);
+    }
+
+    fn call(&mut self, kind: u64, refused: u32, rest: &[u8]) {
+        self.put(kind, refused, rest);
+        self.group += 1;
+        self.stock.refusals[refused as usize] += 1;
+        self.stock.wrapped += self.flags[..self.rows].contains(&true) as u64;
+    }
+
+    fn end_group(&mut self, name: &str) {
+        self.put(9, 0, name.as_bytes());
+        self.printed += &format!("{name}: {} calls, 0 unlike the Rust\n", self.group);
+        self.all += self.group;
+        self.group = 0;
+    }
+
+    /// The image as the Rust has it: its slabs and marks below our head.
+    fn take(&mut self, marks: &[u64]) {
+        let state = self.store.state();
+        let head = HEADER + ROW * state.slabs.len();
+        self.image.truncate(head);
+        for (row, &mark) in marks.iter().enumerate() {
+            put64(&mut self.image, HEADER + ROW * row + 48, mark);
+        }
+        for slab in &state.slabs {
+            self.image.extend_from_slice(slab);
+        }
+    }
+
+    fn take_flags(&mut self) {
+        let state = self.store.state();
+        self.rows = state.flags.len();
+        self.flags[..self.rows].copy_from_slice(&state.flags);
+    }
+
+    /// One list: creation, and the calls that the Rust can be asked.
+    fn list(&mut self, list: &List) {
+        let plan = list.plan.bytes(published::hash);
+        let mut leader = Lent::new("document 01", Plain);
+        let made = leader.create_from(&plan, IMAGE);
+        if let Answer::Refused(n @ 2..=7) = made {
+            // 2^63 and more is a departure.
+            let bound = |t: &Tier| t.interval < 1 << 63 && t.retention < 1 << 63;
+            if list.plan.0.iter().all(|s| s.tiers.iter().all(bound)) {
+                assert_eq!(published::validate(&list.plan), made);
+                self.call(1, n, &plan);
+            }
+        }
+        if made != Answer::Done {
+            return;
+        }
+        assert_eq!(self.store.create(&list.plan), Answer::Done);
+        assert_eq!(self.engine.create(&list.plan), Answer::Done);
+        let total = get64(leader.state().lent.unwrap().0, 16) as usize;
+        self.image = leader.state().lent.unwrap().0[..total].to_vec();
+        self.take(&vec![0; list.plan.rows()]);
+        self.take_flags();
+        for schema in &list.plan.0 {
+            schema.tiers.iter().for_each(|t| self.stock.functions[t.function as usize] += 1);
+        }
+        self.call(1, 0, &plan);
+        for call in &list.calls {
+            if !self.ask(call, &mut leader) {
+                break;
+            }
+        }
+    }
+
+    /// False where the Rust cannot follow any more.
+    fn ask(&mut self, call: &Call, leader: &mut Lent<Plain>) -> bool {
+        let ours = leader.call(call);
+        let damaged = *call == Call::Open && ours == Answer::Refused(10);
+        match asked(Kind::Store, call, &ours) {
+            Asked::Yes => {}
+            Asked::Stop if damaged => {}
+            Asked::Pass | Asked::This(_) => return true,
+            Asked::Stop => return false,
+        }
+        let theirs = self.store.call(call);
+        assert_eq!(ours, theirs, "{call:?}");
+        if !matches!(call, Call::Query { .. } | Call::Auto { .. }) && !damaged {
+            assert_eq!(self.engine.call(call), theirs, "{call:?}");
+        }
+        let refused = match theirs {
+            Answer::Refused(n) => n,
+            _ => 0,
+        };
+        // A refused run of `Store` loses the marks of finished pairs; the engine keeps them.
+        let marks = self.engine.state().marks;
+        if *call == Call::Consolidate && refused != 0 {
+            self.store.set_marks(&marks);
+        }
+        self.take(&marks);
+        if !damaged {
+            self.take_flags();
+        }
+        let (image, flags) = leader.state().lent.unwrap();
+        let rows = marks.len();
+        assert!(image[..self.image.len()] == self.image, "{call:?}");
+        assert!(flags[..rows] == self.flags[..rows], "{call:?}");
+        self.item(call, &theirs, refused);
+        !damaged
+    }
+
+    fn item(&mut self, call: &Call, answer: &Answer, refused: u32) {
+        let words = |xs: &[u64]| xs.iter().flat_map(|x| x.to_le_bytes()).collect::<Vec<u8>>();
+        match call {
+            Call::Open => self.call(2, refused, &[]),
+            &Call::Record { schema, column, value, stamp } => {
+                self.call(3, refused, &words(&[schema as u64, column as u64, value, stamp]));
+            }
+            Call::Batch { entries, tail, stamp } => {
+                let mut rest = words(&[*stamp]);
+                rest.extend(entry_bytes(entries, *tail));
+                self.call(4, refused, &rest);
+            }
+            &Call::Query { schema, column, tier, start, end } => {
+                let mut rest = words(&[schema as u64, column as u64, tier as u64, start, end]);
+                rest.extend(self.found(answer));
+                self.call(5, refused, &rest);
+            }
+            &Call::Auto { schema, column, start, end } => {
+                let mut rest = words(&[schema as u64, column as u64, 0, start, end]);
+                rest.extend(self.found(answer));
+                self.call(6, refused, &rest);
+            }
+            Call::Consolidate => {
+                let count = if let Answer::Count(n) = answer { *n } else { 0 };
+                self.stock.several += (count > 1) as u64;
+                self.call(7, refused, &words(&[count]));
+            }
+            &Call::Poke { row, cell } => {
+                let at = HEADER + ROW * row;
+                let place = match cell.bytes(
+                    get64(&self.image, at + 16) / get64(&self.image, at + 8),
+                    crate::plain::get32(&self.image, at + 28) as u64,
+                ) {
+                    Some((place, _)) => get64(&self.image, at + 32) as usize + place,
+                    None => at + 48,
+                };
+                let place = place.min(self.image.len() - 8);
+                self.call(8, 0, &words(&[place as u64, get64(&self.image, place)]));
+            }
+            Call::Next { .. } | Call::Damage { .. } | Call::Cut { .. } => unreachable!(),
+        }
+    }
+
+    /// A query's answer, with its points.
+    fn found(&mut self, answer: &Answer) -> Vec<u8> {
+        let Answer::Points { tier, oldest, newest, incomplete, points, .. } = answer else {
+            return Vec::new();
+        };
+        self.stock.points += points.len() as u64;
+        let ends = [oldest.unwrap_or(0), newest.unwrap_or(0)];
+        let count = points.len() as u64;
+        let head = [*tier as u64, ends[0], ends[1], *incomplete as u64, count];
+        let points = points.iter().flat_map(|p| [p.0, p.1]);
+        head.into_iter().chain(points).flat_map(|x| x.to_le_bytes()).collect()
+    }
+}
+
+fn one(series: u32, tiers: &[(u64, u64, u32)]) -> Plan {
+    let tier = |&(interval, n, function): &(u64, u64, u32)| Tier {
+        interval,
+        retention: interval * n,
+        function,
+    };
+    Plan(vec![Schema { series, tiers: tiers.iter().map(tier).collect() }])
+}
+
+fn query(column: u32, tier: u32) -> Call {
+    Call::Query { schema: 0, column, tier, start: 0, end: u64::MAX }
+}
+
+/// Slabs that the Rust will not open again, and heads that it opens.
+fn openings() -> Vec<List> {
+    let plan = one(2, &[(10, 4, 0), (20, 3, 1)]);
+    let each = [(0, 0, 0), (0, 3, 1), (1, 2, 5), (1, 4, 0), (0, 40, 7), (1, 64, 9)];
+    let list = |&(row, at, byte): &(usize, usize, u8)| {
+        let mut calls: Vec<Call> = (2..8).map(|k| crate::record(0, 10 * k, k as f64)).collect();
+        calls.extend([Call::Consolidate, Call::Open, query(0, 0), query(0, 1)]);
+        calls.push(Call::Poke { row, cell: Cell::Loose { at, byte } });
+        calls.extend([Call::Open, query(0, 0)]);
+        List::new(plan.clone(), calls)
+    };
+    each.iter().map(list).collect()
+}
+
+/// Each function over several windows, on special values, with infinite ones put in.
+fn functions(r: &mut Random) -> Vec<List> {
+    let list = |function: u32| {
+        let plan = one(2, &[(10, 12, 0), (30, 5, function), (60, 3, function)]);
+        let mut calls = Vec::new();
+        for k in 0..60 {
+            let value = generate::value(r);
+            calls.push(Call::Record { schema: 0, column: k % 2, value, stamp: 60 + 10 * k as u64 });
+            if r.one_in(8) {
+                let value = INFINITY | r.below(2) << 63;
+                let cell = Cell::Value { column: r.below(2), slot: r.below(12), value };
+                calls.push(Call::Poke { row: 0, cell });
+            }
+            if k % 7 == 6 {
+                calls.extend([Call::Consolidate, query(0, 1), query(1, 2)]);
+            }
+        }
+        List::new(plan, calls)
+    };
+    (1..=6).map(list).collect()
+}
+
+/// The third demand's schedule: no tick left out, a run after each coarsest interval, then queries.
+fn schedule(r: &mut Random, intervals: &[u64]) -> List {
+    let coarse = intervals[intervals.len() - 1];
+    let tiers: Vec<(u64, u64, u32)> = (intervals.iter().enumerate())
+        .map(|(k, &i)| (i, coarse / i + r.below(3), (k > 0) as u32))
+        .collect();
+    let plan = one(2, &tiers);
+    let mut calls = Vec::new();
+    for i in 0..3 * coarse / intervals[0] {
+        let stamp = 2 * coarse + i * intervals[0];
+        let mut offset = || (r.below((1 << 31) + 1) as i64 - (1 << 30)) as f64;
+        let entries = vec![(0, 0, offset().to_bits()), (0, 1, offset().to_bits())];
+        calls.push(Call::Batch { entries, tail: 0, stamp });
+        if i % 5 == 4 {
+            calls.push(crate::record(0, 0, 1.0));
+        }
+        if (stamp + intervals[0]) % coarse == 0 {
+            calls.push(Call::Consolidate);
+            calls.extend((0..intervals.len() as u32).flat_map(|t| [query(0, t), query(1, t)]));
+            let (start, end) = (stamp - coarse, stamp);
+            calls.push(Call::Auto { schema: 0, column: 1, start, end });
+        }
+    }
+    List::new(plan, calls)
+}
+
+/// A few of the short lists over small stocks.
+fn short(r: &mut Random) -> Vec<List> {
+    let mut found = Vec::new();
+    for (fine, coarse) in [(1, 2), (1, 3), (2, 3)] {
+        for n in 1..=4 {
+            let mut stock: Vec<Call> =
+                [1, 2, 3, 4, 5, 7].map(|t| crate::record(t as u32 % 2, t, t as f64)).to_vec();
+            stock.extend([Call::Consolidate, Call::Open]);
+            let plan = one(2, &[(fine, n, 0), (coarse, 1 + n % 3, 1)]);
+            for _ in 0..6 {
+                let mut calls: Vec<Call> =
+                    (0..5).map(|_| stock[r.below(stock.len() as u64) as usize].clone()).collect();
+                calls.extend([Call::Consolidate, query(0, 0), query(0, 1), query(1, 1)]);
+                found.push(List::new(plan.clone(), calls));
+            }
+        }
+    }
+    found
+}
+
+/// Writes `stdin` and `stdout` of the program into a folder.
+pub fn write(folder: &str, seed: u64) {
+    let mut w = Writer {
+        bytes: Vec::new(),
+        printed: String::new(),
+        group: 0,
+        all: 0,
+        stock: Stock::default(),
+        store: ordered::Rust::new("stored", Kind::Store),
+        engine: ordered::Rust::new("stored-engine", Kind::Engine),
+        image: Vec::new(),
+        flags: [false; 32],
+        rows: 0,
+    };
+    let mut r = Random(seed.wrapping_mul(1 << 40));
+    let random = |i: u64| Random(seed.wrapping_mul(1 << 40).wrapping_add(i));
+    let second = 1_000_000_000;
+    let groups: Vec<(&str, Vec<List>)> = vec![
+        ("cases A to L", special::case_lists()),
+        ("plans", (0..400).map(|i| generate::odd_plan(&mut random(i))).collect()),
+        ("short lists", short(&mut r)),
+        ("openings", openings()),
+        ("functions", functions(&mut r)),
+        ("third demand, three tiers", vec![schedule(&mut r, &[second, 5 * second, 60 * second])]),
+        ("third demand, four tiers", vec![schedule(&mut r, &[10, 20, 60, 480])]),
+        (
+            "one to three schemas",
+            (0..40).map(|i| generate::list(&mut random(i), 40, false)).collect(),
+        ),
+        ("poked", (0..40).map(|i| generate::list(&mut random(1000 + i), 40, true)).collect()),
+    ];
+    for (name, lists) in groups {
+        lists.iter().for_each(|l| w.list(l));
+        w.end_group(name);
+    }
+    w.printed += &format!("all: {} calls, 0 unlike the Rust\n", w.all);
+    let s = &w.stock;
+    for n in (2..=7).chain([10]).chain(12..=16) {
+        assert!(s.refusals[n] > 0, "no refusal {n} in the list");
+    }
+    assert!(s.functions[1..].iter().all(|&n| n > 0) && s.wrapped > 0 && s.several > 0);
+    std::fs::write(format!("{folder}/stdin"), &w.bytes).unwrap();
+    std::fs::write(format!("{folder}/stdout"), &w.printed).unwrap();
+    print!("{}", w.printed);
+    println!("{} bytes; refusals 1 to 16: {:?}", w.bytes.len(), &s.refusals[1..]);
+    println!(
+        "tiers by function 0 to 6: {:?}; {} calls with a wrapped ring, {} runs with several writes, {} points",
+        s.functions, s.wrapped, s.several, s.points
+    );
+}
