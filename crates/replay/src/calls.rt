@@ -1,6 +1,6 @@
 // An item's call, carried out by the library's cores and compared with the stored answer.
-use crate::stored::word;
 use crate::stored::half;
+use crate::stored::word;
 ghost use Prim.Native.Nat.{_≤_};
 
 // The flags that a call left, and whether its answer is unlike the stored one.
