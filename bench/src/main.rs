@@ -1,17 +1,18 @@
-//! One driver for both sides: the proved library through libedge.a, and the published Rust.
+//! One driver for both sides: the proved library through libedge.a, and the published Rust. Times are the thread's
+//! processor time, so that a busy machine tells less.
 //!
-//!   bench                         every measure: median, least and greatest of the repetitions, ratio
+//!   bench                         every measure, a Markdown row each: median, least and greatest of the repetitions, ratio
 //!   bench --only NAME             one measure
 //!   bench --side ours|rust        one side
 //!   bench --turns N [--idle]      N turns of a measure once, no timing, or what goes before them alone: for callgrind
 //!   bench --repetitions N         7 unless given
+//!   bench --list                  the measures: turns for callgrind, what a turn counts for, name
 //!   bench --fill                  creation beside memset on the same slice: bytes a second
 mod calls;
 mod ours;
 mod published;
 
 use std::hint::black_box;
-use std::time::Instant;
 
 use calls::{Plan, SECOND, Side, Tier};
 
@@ -27,26 +28,22 @@ fn rings(schemas: u32, tiers: u64) -> Plan {
     Plan { schemas, series: 2, tiers: (0..tiers).map(tier).collect() }
 }
 
-/// A ring of 10^6 slots into one of minutes.
-fn million() -> Plan {
-    let mut plan = three(2);
-    plan.tiers.truncate(2);
-    plan.tiers[0].slots = 1_000_000;
-    plan
-}
+type Step = Box<dyn Fn(&mut dyn Side)>;
+type Turn = Box<dyn Fn(&mut dyn Side, u64)>;
 
-/// A measure: what is set up, and what is timed. `timed` is given the number of the turn.
+/// A measure: what is set up, and what is timed. `turn` is given its number.
 struct Measure {
     name: &'static str,
     unit: &'static str,
-    /// Turns of a repetition, and what a turn counts for.
+    /// Turns of a repetition, and what a turn counts for; turns under callgrind.
     turns: u64,
     per_turn: u64,
+    counted: u64,
     plan: Plan,
-    setup: fn(&mut dyn Side),
+    setup: Step,
     /// Before a turn, not timed. Where there is one, each turn is timed by itself.
-    before: Option<fn(&mut dyn Side, u64)>,
-    turn: fn(&mut dyn Side, u64),
+    before: Option<Turn>,
+    turn: Turn,
 }
 
 /// The stamp of second s of a store's life, which starts at an hour.
@@ -54,31 +51,76 @@ fn at(s: u64) -> u64 {
     (3600 + s) * SECOND
 }
 
-fn nothing(_: &mut dyn Side) {}
-
-/// An hour of seconds, all columns: `entries` has them.
-fn hour(side: &mut dyn Side, number: u64) {
-    for s in 0..3600 {
-        side.batch(at(3600 * number + s));
+/// Seconds of a store's life, all columns: `entries` has them.
+fn seconds(side: &mut dyn Side, from: u64, count: u64) {
+    for s in from..from + count {
+        side.batch(at(s));
     }
 }
 
 /// Two hours, so that the ring of seconds has wrapped.
 fn two_hours(side: &mut dyn Side) {
     side.entries(2);
-    for n in 0..2 {
-        hour(side, n);
+    seconds(side, 0, 7200);
+}
+
+/// A run after `new` seconds, in a full ring of `slots` seconds.
+fn run(name: &'static str, turns: u64, series: u32, slots: u64, new: u64) -> Measure {
+    let mut plan = three(series);
+    plan.tiers[0].slots = slots;
+    if slots > 3600 {
+        plan.tiers.truncate(2);
+    }
+    // Whole hours, so that each run starts with a minute.
+    let filled = slots.div_ceil(3600) * 3600 + 3600;
+    let setup = move |side: &mut dyn Side| {
+        side.entries(series);
+        seconds(side, 0, filled);
+        if slots > 3600 {
+            side.set_mark(at(filled - 1));
+        } else {
+            side.consolidate();
+        }
+    };
+    Measure {
+        name,
+        unit: "a run",
+        turns,
+        per_turn: 1,
+        counted: 2,
+        plan,
+        setup: Box::new(setup),
+        before: Some(Box::new(move |side, i| seconds(side, filled + new * i, new))),
+        turn: Box::new(|side, _| {
+            black_box(side.consolidate());
+        }),
     }
 }
 
-fn consolidated(side: &mut dyn Side) {
-    two_hours(side);
-    side.consolidate();
-}
-
 fn measures() -> Vec<Measure> {
-    let record = |side: &mut dyn Side, i: u64| side.record((i % 2) as u32, i as f64, at(i / 2));
-    let batch = |side: &mut dyn Side, i: u64| side.batch(at(i));
+    let base = |name, turns, counted, plan, turn: Turn| Measure {
+        name,
+        unit: "a call",
+        turns,
+        per_turn: 1,
+        counted,
+        plan,
+        setup: Box::new(|_| ()),
+        before: None,
+        turn,
+    };
+    let record = |name, plan| {
+        let turn = |side: &mut dyn Side, i: u64| side.record((i % 2) as u32, i as f64, at(i / 2));
+        base(name, 200_000, 2000, plan, Box::new(turn))
+    };
+    let batch = |name, turns, series: u32| Measure {
+        setup: Box::new(move |s| s.entries(series)),
+        ..base(name, turns, 2000, three(series), Box::new(|side, i| side.batch(at(i))))
+    };
+    let query = |name, turns, turn: Turn| Measure {
+        setup: Box::new(two_hours),
+        ..base(name, turns, 10, three(2), turn)
+    };
     let whole = |side: &mut dyn Side, _: u64| {
         let (n, sum) = side.query(1, 0, 0, u64::MAX);
         assert_eq!(n, 3600);
@@ -92,83 +134,78 @@ fn measures() -> Vec<Measure> {
         let t = at(3600 + 60 * (i % 59));
         assert_eq!(side.query_auto(1, t, t + 60 * SECOND).0, 60);
     };
-    let run = |side: &mut dyn Side, _: u64| {
+    let idle_run = |side: &mut dyn Side, _: u64| {
         black_box(side.consolidate());
     };
-    let base = |name, unit, plan| Measure {
-        name,
-        unit,
-        turns: 200_000,
-        per_turn: 1,
-        plan,
-        setup: nothing,
-        before: None,
-        turn: record,
-    };
-    let hours = |name, series: u32, setup| Measure {
-        turns: 5,
-        setup,
-        before: Some(|side, i| hour(side, i + 2)),
-        turn: run,
-        ..base(name, "a run", three(series))
-    };
-    vec![
-        Measure { ..base("record, 3 rows", "a call", three(2)) },
-        Measure { ..base("record, 1 row", "a call", rings(1, 1)) },
-        Measure { ..base("record, 8 rows", "a call", rings(2, 4)) },
-        Measure { ..base("record, 32 rows", "a call", rings(8, 4)) },
-        Measure { turn: batch, setup: |s| s.entries(2), ..base("batch of 2", "a call", three(2)) },
-        Measure { turn: batch, setup: |s| s.entries(64), turns: 50_000, ..base("batch of 64", "a call", three(64)) },
-        Measure { turn: whole, setup: two_hours, turns: 50, per_turn: 3600, ..base("query, all points", "a point", three(2)) },
-        Measure { turn: point, setup: two_hours, turns: 2000, ..base("query, one point of 3,600", "a call", three(2)) },
-        Measure { turn: auto, setup: two_hours, turns: 2000, ..base("query_auto, 60 points", "a call", three(2)) },
-        hours("run after an hour, 2 series", 2, consolidated),
-        hours("run after an hour, 64 series", 64, |side| {
-            side.entries(64);
-            for n in 0..2 {
-                hour(side, n);
-            }
+    let nothing_new = Measure {
+        unit: "a run",
+        setup: Box::new(|side| {
+            two_hours(side);
             side.consolidate();
         }),
-        Measure {
-            turns: 3,
-            setup: |side| {
-                side.entries(2);
-                for s in 0..1_000_800 {
-                    side.batch(at(s));
-                }
-                side.set_mark(at(1_000_799));
-            },
-            before: Some(|side, i| hour(side, i + 278)),
-            turn: run,
-            ..base("run after an hour, 10^6 slots", "a run", million())
-        },
-        Measure { turns: 200, setup: consolidated, turn: run, ..base("run with nothing new", "a run", three(2)) },
-        Measure { turns: 50, turn: |side, _| side.create(&three(2)), ..base("creation", "a call", three(2)) },
-        Measure { turns: 50, setup: two_hours, turn: |side, _| side.open(), ..base("opening", "a call", three(2)) },
+        ..base("run, nothing new", 200, 10, three(2), Box::new(idle_run))
+    };
+    vec![
+        record("record, 1 row", rings(1, 1)),
+        record("record, 3 rows", three(2)),
+        record("record, 8 rows", rings(2, 4)),
+        record("record, 32 rows", rings(8, 4)),
+        batch("batch of 2", 200_000, 2),
+        batch("batch of 64", 50_000, 64),
+        Measure { per_turn: 3600, unit: "a point", ..query("query, all of 3,600 points", 50, Box::new(whole)) },
+        query("query, one point of 3,600", 2000, Box::new(point)),
+        query("query_auto, 60 points", 2000, Box::new(auto)),
+        run("run after a minute (1 window)", 20, 2, 3600, 60),
+        run("run after ten minutes (10)", 10, 2, 3600, 600),
+        run("run after an hour (60), 2 series", 5, 2, 3600, 3600),
+        run("run after an hour, 8 series", 5, 8, 3600, 3600),
+        run("run after an hour, 64 series", 3, 64, 3600, 3600),
+        run("run after an hour, 36,000 slots", 3, 2, 36_000, 3600),
+        run("run after an hour, 10^6 slots", 3, 2, 1_000_000, 3600),
+        nothing_new,
+        base("creation", 50, 10, three(2), Box::new(|side, _| side.create(&three(2)))),
+        query("opening", 50, Box::new(|side, _| side.open())),
     ]
+}
+
+#[repr(C)]
+struct Timespec {
+    seconds: i64,
+    nanoseconds: i64,
+}
+
+unsafe extern "C" {
+    fn clock_gettime(clock: i32, at: *mut Timespec) -> i32;
+}
+
+/// Nanoseconds of processor time that this thread has had, the kernel's for it among them (CLOCK_THREAD_CPUTIME_ID):
+/// what others do on the machine meanwhile does not count.
+fn now() -> f64 {
+    let mut at = Timespec { seconds: 0, nanoseconds: 0 };
+    assert_eq!(unsafe { clock_gettime(3, &mut at) }, 0);
+    at.seconds as f64 * 1e9 + at.nanoseconds as f64
 }
 
 /// Nanoseconds for each of what a turn counts.
 fn repetition(m: &Measure, side: &mut dyn Side) -> f64 {
     side.create(&m.plan);
     (m.setup)(side);
-    let mut spent = 0;
-    if let Some(before) = m.before {
+    let mut spent = 0.0;
+    if let Some(before) = &m.before {
         for i in 0..m.turns {
             before(side, i);
-            let start = Instant::now();
+            let start = now();
             (m.turn)(side, i);
-            spent += start.elapsed().as_nanos();
+            spent += now() - start;
         }
     } else {
-        let start = Instant::now();
+        let start = now();
         for i in 0..m.turns {
             (m.turn)(side, i);
         }
-        spent = start.elapsed().as_nanos();
+        spent = now() - start;
     }
-    spent as f64 / (m.turns * m.per_turn) as f64
+    spent / (m.turns * m.per_turn) as f64
 }
 
 fn shown(ns: f64) -> String {
@@ -189,12 +226,12 @@ fn fill(repetitions: usize) {
         side.create(&plan);
         let (mut set, mut made) = (Vec::new(), Vec::new());
         for _ in 0..repetitions {
-            let start = Instant::now();
+            let start = now();
             black_box(side.image()).fill(black_box(0));
-            set.push(start.elapsed().as_secs_f64());
-            let start = Instant::now();
+            set.push((now() - start) / 1e9);
+            let start = now();
             side.create(&plan);
-            made.push(start.elapsed().as_secs_f64());
+            made.push((now() - start) / 1e9);
         }
         let bytes = side.image().len() as f64;
         let rate = |t: &mut Vec<f64>| {
@@ -223,7 +260,7 @@ fn main() {
         for mut m in chosen {
             m.turns = turns.parse().unwrap();
             if args.iter().any(|a| a == "--idle") {
-                m.turn = |_, _| ();
+                m.turn = Box::new(|_, _| ());
             }
             for name in &names {
                 repetition(&m, &mut *make(name));
@@ -236,7 +273,7 @@ fn main() {
         return;
     }
     if args.iter().any(|a| a == "--list") {
-        chosen.for_each(|m| println!("{}", m.name));
+        chosen.for_each(|m| println!("{}\t{}\t{}", m.counted, m.per_turn, m.name));
         return;
     }
     for m in chosen {
@@ -248,13 +285,13 @@ fn main() {
                 t.push(repetition(&m, &mut **side));
             }
         }
-        print!("{:32} {:8}", m.name, m.unit);
+        print!("| {}, {} |", m.name, m.unit);
         for t in &mut times {
             t.sort_by(f64::total_cmp);
-            print!("  {:>10} ({} .. {})", shown(t[t.len() / 2]), shown(t[0]), shown(t[t.len() - 1]));
+            print!(" {} ({} .. {}) |", shown(t[t.len() / 2]), shown(t[0]), shown(t[t.len() - 1]));
         }
         if let [rust, ours] = &times[..] {
-            print!("  ratio {:.2}", ours[ours.len() / 2] / rust[rust.len() / 2]);
+            print!(" {:.2} |", ours[ours.len() / 2] / rust[rust.len() / 2]);
         }
         println!();
     }
