@@ -291,7 +291,8 @@ fn main() {
             print!(" {} ({} .. {}) |", shown(t[t.len() / 2]), shown(t[0]), shown(t[t.len() - 1]));
         }
         if let [rust, ours] = &times[..] {
-            print!(" {:.2} |", ours[ours.len() / 2] / rust[rust.len() / 2]);
+            let ratio = ours[ours.len() / 2] / rust[rust.len() / 2];
+            print!(" {ratio:.*} |", if ratio < 0.1 { 3 } else { 2 });
         }
         println!();
     }
