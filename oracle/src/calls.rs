@@ -78,12 +78,12 @@ pub enum Call {
         start: u64,
         end: u64,
     },
-    /// A reader made by hand steps over a part of the image: only for sides on lent bytes.
+    /// A reader made by hand steps over a part of the image, as far as it is there: only for sides on lent bytes.
     Next {
         part: (usize, usize),
         column: u32,
         range: (u64, u64),
-        /// Slot, and slots left: more than the part's header has slots for counts from 0 again.
+        /// Slot, and slots left.
         place: (u64, u64),
     },
     Consolidate,

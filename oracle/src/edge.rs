@@ -61,6 +61,16 @@ unsafe extern "C" {
         place: *mut [u64; 2],
         point: *mut [u64; 2],
     ) -> u32;
+    fn rondo_read(
+        slab: *const u8,
+        slab_len: usize,
+        column: u32,
+        start: u64,
+        end: u64,
+        place: *mut [u64; 2],
+        words: *mut u64,
+        words_len: usize,
+    ) -> usize;
     fn rondo_consolidate(image: *mut u8, image_len: usize, flags: *mut u32, count: *mut u64)
     -> u32;
 }
@@ -88,6 +98,38 @@ fn step(slab: &[u8], column: u32, range: (u64, u64), place: &mut [u64; 2]) -> Op
     let more = unsafe { rondo_next(p, len, column, range.0, range.1, place, &mut point) };
     assert!(more == 1 || (more == 0 && point == [LENT; 2]), "rondo_next: {more}, {point:x?}");
     (more == 1).then_some((point[0], point[1]))
+}
+
+/// The same points by `rondo_read`, `room` of them and an odd word at a time, up to the end or
+/// `most` calls: what it stores, counts and leaves is what so many steps do.
+fn read_agrees(
+    slab: &[u8],
+    column: u32,
+    range: (u64, u64),
+    from: [u64; 2],
+    room: usize,
+    most: u32,
+) {
+    let (mut stepping, mut reading) = (from, from);
+    let (p, len) = (slab.as_ptr(), slab.len());
+    for _ in 0..most {
+        let mut words = vec![LENT; 2 * room + 1];
+        let (w, size) = (words.as_mut_ptr(), words.len());
+        let (start, end) = range;
+        let n = unsafe { rondo_read(p, len, column, start, end, &mut reading, w, size) };
+        let mut wanted = Vec::new();
+        while wanted.len() < 2 * room
+            && let Some((stamp, value)) = step(slab, column, range, &mut stepping)
+        {
+            wanted.extend([stamp, value]);
+        }
+        assert!(n == wanted.len() / 2, "rondo_read: {n} points, {} steps", wanted.len() / 2);
+        wanted.resize(2 * room + 1, LENT);
+        assert!(words == wanted && reading == stepping, "rondo_read: {words:x?}, {wanted:x?}");
+        if n < room {
+            return;
+        }
+    }
 }
 
 impl Library for Edge {
@@ -151,6 +193,7 @@ impl Library for Edge {
             points.push(point);
             assert!(points.len() <= slab.len(), "a reader that does not end");
         }
+        read_agrees(slab, column, (start, end), [slot, left], 1 + points.len() % 3, 1 << 20);
         let stands = |x: u64| (x != 0).then_some(x);
         Answer::Points {
             tier: tier as u32,
@@ -164,6 +207,7 @@ impl Library for Edge {
 
     fn next(&self, slab: &[u8], column: u32, range: (u64, u64), place: (u64, u64)) -> Answer {
         let mut place = [place.0, place.1];
+        read_agrees(slab, column, range, place, (place[1] % 4) as usize, 1);
         let point = step(slab, column, range, &mut place);
         Answer::Stepped { point, place: (place[0], place[1]) }
     }

@@ -462,7 +462,8 @@ pub fn next(
     let inside = slab.len() >= 64
         && held((slots(slab) as u128, series(slab) as u128))
         && (column as usize) < series(slab)
-        && slot < slots(slab) as u64;
+        && slot < slots(slab) as u64
+        && left <= slots(slab) as u64;
     if !inside {
         return (None, (slot, 0));
     }

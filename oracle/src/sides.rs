@@ -178,8 +178,8 @@ impl<L: Library> Side for Lent<L> {
                 library.query(image, flags, (schema, column), None, (start, end))
             }
             &Call::Next { part, column, range, place } => {
-                let (slab, place) = by_hand(image, part, place);
-                library.next(slab, column, range, place)
+                let to = part.1.min(image.len());
+                library.next(&image[part.0.min(to)..to], column, range, place)
             }
             Call::Consolidate => library.consolidate(image, flags),
             Call::Open => answered(library.open(image, flags)),
@@ -203,15 +203,6 @@ impl<L: Library> Side for Lent<L> {
         state.lent = Some((&self.image, self.flags));
         state
     }
-}
-
-/// A part of the image, as far as it is there, and a place with no more slots left than its
-/// header has.
-fn by_hand(image: &[u8], part: (usize, usize), place: (u64, u64)) -> (&[u8], (u64, u64)) {
-    let to = part.1.min(image.len());
-    let slab = &image[part.0.min(to)..to];
-    let slots = if slab.len() < 20 { 0 } else { plain::get32(slab, 16) as u64 };
-    (slab, (place.0, place.1 % (slots + 1)))
 }
 
 /// Writes a cell into an image's slab, or its mark into the row.
