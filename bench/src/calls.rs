@@ -29,6 +29,8 @@ pub trait Side {
     fn batch(&mut self, stamp: u64);
     /// Reads all points: how many, and their sum.
     fn query(&mut self, column: u32, tier: u32, start: u64, end: u64) -> (u64, f64);
+    /// From here on a query's points are read one a call, where there is another way.
+    fn step_readers(&mut self) {}
     fn query_auto(&mut self, column: u32, start: u64, end: u64) -> (u64, f64);
     fn consolidate(&mut self) -> u64;
     /// Sets the mark of the pair of tiers 0 and 1, as if a run had ended there.

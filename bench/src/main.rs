@@ -153,6 +153,15 @@ fn measures() -> Vec<Measure> {
         batch("batch of 2", 200_000, 2),
         batch("batch of 64", 50_000, 64),
         Measure { per_turn: 3600, unit: "a point", ..query("query, all of 3,600 points", 50, Box::new(whole)) },
+        Measure {
+            per_turn: 3600,
+            unit: "a point",
+            setup: Box::new(|side| {
+                two_hours(side);
+                side.step_readers();
+            }),
+            ..query("the same, one point a call", 50, Box::new(whole))
+        },
         query("query, one point of 3,600", 2000, Box::new(point)),
         query("query_auto, 60 points", 2000, Box::new(auto)),
         run("run after a minute (1 window)", 20, 2, 3600, 60),

@@ -10,6 +10,7 @@ unsafe extern "C" {
     fn rondo_query(image: *const u8, image_len: usize, flags: u32, schema: u32, column: u32, tier: u32, start: u64, end: u64, answer: *mut [u64; 11]) -> u32;
     fn rondo_query_auto(image: *const u8, image_len: usize, flags: u32, schema: u32, column: u32, start: u64, end: u64, answer: *mut [u64; 11]) -> u32;
     fn rondo_next(slab: *const u8, slab_len: usize, column: u32, start: u64, end: u64, place: *mut u64, point: *mut [u64; 2]) -> u32;
+    fn rondo_read(slab: *const u8, slab_len: usize, column: u32, start: u64, end: u64, place: *mut u64, words: *mut u64, words_len: usize) -> usize;
     fn rondo_consolidate(image: *mut u8, image_len: usize, flags: *mut u32, count: *mut u64) -> u32;
 }
 
@@ -19,6 +20,7 @@ pub struct Ours {
     image: Vec<u8>,
     flags: u32,
     entries: Vec<u8>,
+    stepping: bool,
 }
 
 /// The bytes of a plan (document 01, "The image a call is handed").
@@ -49,7 +51,25 @@ impl Ours {
         &mut self.image
     }
 
+    /// All points, 32 a call.
     fn read(&self, answer: [u64; 11]) -> (u64, f64) {
+        let [_, _, _, start, end, _, column, from, to, slot, left] = answer;
+        let slab = &self.image[from as usize..to as usize];
+        let (mut place, mut words) = ([slot, left], [0; 64]);
+        let (mut n, mut sum) = (0, 0.0);
+        let (p, len, c) = (slab.as_ptr(), slab.len(), column as u32);
+        loop {
+            let k = unsafe { rondo_read(p, len, c, start, end, place.as_mut_ptr(), words.as_mut_ptr(), 64) };
+            n += k as u64;
+            sum = words[..2 * k].chunks_exact(2).fold(sum, |sum, w| sum + f64::from_bits(w[1]));
+            if k < 32 {
+                return (n, sum);
+            }
+        }
+    }
+
+    /// All points, one a call.
+    fn step(&self, answer: [u64; 11]) -> (u64, f64) {
         let [_, _, _, start, end, _, column, from, to, slot, left] = answer;
         let slab = &self.image[from as usize..to as usize];
         let (mut place, mut point) = ([slot, left], [0; 2]);
@@ -106,7 +126,11 @@ impl Side for Ours {
         let (i, mut answer) = (&self.image, [0; 11]);
         let done = unsafe { rondo_query(i.as_ptr(), i.len(), self.flags, 0, column, tier, start, end, &mut answer) };
         assert_eq!(done, 0);
-        self.read(answer)
+        if self.stepping { self.step(answer) } else { self.read(answer) }
+    }
+
+    fn step_readers(&mut self) {
+        self.stepping = true;
     }
 
     fn query_auto(&mut self, column: u32, start: u64, end: u64) -> (u64, f64) {
