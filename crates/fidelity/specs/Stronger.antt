@@ -1,7 +1,7 @@
 -- The third demand with no more supposed than its proof uses. The clauses are those of model/specs/Demand.antt, each under a name of its own, but for five that
 -- it does not need: one schema (all rows but the first average, so no second schema has a finest tier), at least two tiers, at most four, a ratio of at least
--- 2, a first stamp that is not 0. `ThirdDemand` follows from it (Theorem). Each clause
--- that is left has a must-fail edit that puts a clause in its place that always holds. Assumes nothing.
+-- 2, a first stamp that is not 0. `ThirdDemand` follows from it (Theorem). Each clause that is left has a must-fail edit that puts a clause in its place that
+-- always holds. Assumes nothing.
 use Prim.Native.Nat.{ℕ, suc, _-_, _*_, _/_, _%_, _≤_, _<_}
 use mathlib.Core.Path.{_≡_}
 use mathlib.Core.Bool.{true, false}

@@ -2,7 +2,7 @@
 -- run and the calls between, queries over all time, and steps the reader to its end, each by its proved core; so the checker holds their contracts together.
 -- Assumes nothing.
 use Prim.Native.Nat.{ℕ, zero, suc}
-use mathlib.Core.Path.{_≡_, refl, sym, subst}
+use mathlib.Core.Path.{_≡_, refl}
 use mathlib.Core.Bool.{true, false≢true}
 use mathlib.Core.List.{List, [], _∷_}
 use lib.Dec.{T, eqb}
