@@ -14,6 +14,7 @@ use Rattle.model.specs.declared.Next.the-variants.{Handed, Finished}
 use Rattle.model.specs.Read.{Reader, readable, step, stepped, andThen, pointsOf}
 use Rattle.rings.specs.Points.{points-step, points-unreadable}
 use Rattle.fetch.specs.Fetch.{Fetch, thenFetch, fetchUpTo, words}
+use Rattle.fetch.specs.Stored.{pointAt, storedFrom, stored}
 
 -- ---- the points
 
@@ -48,14 +49,6 @@ module _ (s : List ℕ) (c start end : ℕ) where
 
 -- ---- read back from the words
 
-unfoldable pub pointAt : List ℕ → ℕ → Point
-pointAt s i = record { stamp = getD s (2 * i) 0; value = getD s (2 * i + 1) 0 }
-
--- n points, from point i on
-unfoldable pub storedFrom : List ℕ → ℕ → ℕ → List Point
-storedFrom s i zero = []
-storedFrom s i (suc n) = pointAt s i ∷ storedFrom s (suc i) n
-
 length-words : (ps : List Point) → length (words ps) ≡ 2 * length ps
 unfolding words
 length-words [] = refl
@@ -83,5 +76,22 @@ back (p ∷ ps) w r i h =
     both : {q : Point} {qs : List Point} → q ≡ p → qs ≡ ps → q ∷ qs ≡ p ∷ ps
     both e f = rw (e, f)
 
-pub stored-back : (ps : List Point) (out : List ℕ) → 2 * length ps ≤ length out → storedFrom (sets out 0 (words ps)) 0 (length ps) ≡ ps
+stored-back : (ps : List Point) (out : List ℕ) → 2 * length ps ≤ length out → stored (sets out 0 (words ps)) (length ps) ≡ ps
+unfolding stored
 stored-back ps out h = rw (sets-eq (words ps) out 0 (omega (arith, length-words ps))) (back ps [] (drop (0 + length (words ps)) out) 0 refl)
+
+-- ---- what `fetch` leaves, read back
+
+length-take-le : (k : ℕ) (ps : List Point) → length (take k ps) ≤ k
+length-take-le zero ps = omega arith
+length-take-le (suc k) [] = omega arith
+length-take-le (suc k) (p ∷ ps) = omega (arith, length-take-le k ps)
+
+pub fetched-out : (s : List ℕ) (c start end : ℕ) (p : Place) (old out : List ℕ) (n : ℕ) → n ≡ length (fetchUpTo (length old / 2) s c start end p .points)
+    → out ≡ sets old 0 (words (fetchUpTo (length old / 2) s c start end p .points))
+    → stored out n ≡ take (length old / 2) (pointsOf (record { slab = s; column = c; start = start; end = end; place = p }))
+fetched-out s c start end p old out n n-is out-is =
+    let e = fetched-are s c start end (length old / 2) p in
+    let r : Reader = record { slab = s; column = c; start = start; end = end; place = p } in
+    let few : 2 * length (fetchUpTo (length old / 2) s c start end p .points) ≤ length old = rw e (omega (arith, length-take-le (length old / 2) (pointsOf r))) in
+    rw (n-is, out-is) (stored-back (fetchUpTo (length old / 2) s c start end p .points) old few ∙ e)

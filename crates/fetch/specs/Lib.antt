@@ -1,2 +1,3 @@
 pub mod Fetch
 pub mod Laws
+pub mod Stored

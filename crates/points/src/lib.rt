@@ -6,9 +6,9 @@ ghost use lib.ListN.{length, take};
 ghost use Rattle.model.specs.Read.{pointsFrom};
 ghost use Rattle.model.specs.Store.{queriedReply};
 ghost use Rattle.model.specs.Demand.{handedOut};
-ghost use Rattle.points.specs.Stored.{stored};
+ghost use Rattle.fetch.specs.Stored.{stored};
 
-// Steps a reader from a place to its end, or until `out` is full. Answers how many points it handed out.
+// The points from a place to the reader's end, or until `out` is full. Answers how many.
 fn hand_out(
     slab: &[u8],
     column: u32,
@@ -19,27 +19,8 @@ fn hand_out(
 ) -> usize
     ensures { λ r. ⌜ stored (now (out .exit)) r ≡ take (length (now (out .entry)) / 2) (pointsFrom (from .left) (now (slab .entry)) column start end from) ⌝ }
 {
-    let room = out.len() / 2;
-    let mut place = from;
-    let mut left = from.left;
-    let mut n: usize = 0;
-    while 0 < left {
-        if room <= n {
-            return n;
-        }
-        let stepped = reader::step(slab, column, start, end, place);
-        let next = stepped.next;
-        let model::Next::Handed(point) = next else {
-            return n;
-        };
-        out[2 * n] = point.stamp;
-        out[2 * n + 1] = point.value;
-        let later = stepped.place;
-        place = later;
-        n += 1;
-        left -= 1;
-    }
-    n
+    let fetched = fetch::fetch(slab, column, start, end, from, out);
+    fetched.count
 }
 
 // The smaller one.

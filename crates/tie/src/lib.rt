@@ -8,7 +8,7 @@ ghost use lib.ListN.{length};
 ghost use Rattle.model.specs.Store.{after, consolidateCall};
 ghost use Rattle.lent.specs.Parts.{lentOf};
 ghost use Rattle.calls.specs.Encoded.{callsIn};
-ghost use Rattle.points.specs.Stored.{stored};
+ghost use Rattle.fetch.specs.Stored.{stored};
 ghost use Rattle.tie.specs.Kept.{situation, Kept};
 
 // The flags as the last call left them, and how many points were written out.
