@@ -1,9 +1,9 @@
--- `text::spaces` meets its contract: at most 64 of the 64 spaces. Assumes nothing.
+-- `columns::spaces` meets its contract: at most 64 of the 64 spaces. Assumes nothing.
 use mathlib.Core.Path.{sym}
 use lib.Seq.{length-take-le}
 use borrow.Author.Needs.{needs}
-use Rattle.text.proofs.spaces.Statement.{statement}
-use Rattle.text.proofs.spaces.Tie as tie
+use Rattle.columns.proofs.spaces.Statement.{statement}
+use Rattle.columns.proofs.spaces.Tie as tie
 
 least-requires : tie.Need-least-requires
 least-requires c κs = search needs
