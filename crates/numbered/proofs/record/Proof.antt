@@ -16,7 +16,7 @@ enum-known-found : tie.Need-enum-known-found
 enum-known-found c = search needs
 
 flag-at-requires : tie.Need-flag-at-requires
-flag-at-requires c κs = row-ready (c .before .found .given .1) (c .before .before .before .ready .ensures) .few-rows
+flag-at-requires c κs = omega (arith, row-ready (c .before .found .given .1) (c .before .before .before .ready .ensures) .few-rows)
 
 cast-store : tie.Need-cast-store
 cast-store c = search needs

@@ -14,7 +14,7 @@ enum-known-found : tie.Need-enum-known-found
 enum-known-found c = search needs
 
 flag-requires : tie.Need-flag-requires
-flag-requires c κs = row-ready (c .before .found .given .1) (c .before .before .before .ready .ensures) .few-rows
+flag-requires c κs = omega (arith, row-ready (c .before .found .given .1) (c .before .before .before .ready .ensures) .few-rows)
 
 cast-store : tie.Need-cast-store
 cast-store c = search needs
@@ -26,7 +26,7 @@ store-requires c κs =
     (r .opened, row-there (lentOf (start .args .image .now) (start .args .flags)) (start .args .handle .schema) (start .args .handle .column) (r .opened) (r .row-is))
 
 with-flag-requires : tie.Need-with-flag-requires
-with-flag-requires c κs = row-ready (c .before .before .before .before .before .before .before .found .given .1) (c .before .before .before .before .before .before .before .before .before .ready .ensures) .few-rows
+with-flag-requires c κs = omega (arith, row-ready (c .before .before .before .before .before .before .before .found .given .1) (c .before .before .before .before .before .before .before .before .before .ready .ensures) .few-rows)
 
 enum-known-found-2 : tie.Need-enum-known-found-2
 enum-known-found-2 c = search needs
