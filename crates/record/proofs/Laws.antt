@@ -20,12 +20,12 @@ use Rattle.model.specs.Record.{stampOk, recordCheck}
 use Rattle.laws.specs.Tests.{yes-le, yes-lt, no-le, no-lt}
 use Rattle.laws.specs.Bytes.{lent-splice}
 use Rattle.rings.specs.Sound.{Sound}
+use Rattle.rows.specs.First.{refusal-no}
 use Rattle.ring.specs.Parts.{ringOf, one}
 use Rattle.lent.specs.Parts.{SlabAt, finestOf}
 use Rattle.lent.specs.declared.Finest.the-variants.{At, Missing}
 use Rattle.lent.specs.Handle.{handle-none, handle-at, row-there}
 use Rattle.lent.proofs.Laws.{few-rows}
-use Rattle.record.specs.Numbers.{some-number}
 use Rattle.record.specs.Ready.{lentBy, ReadyAt, RowWritten}
 
 -- ---- the stamp
@@ -92,7 +92,7 @@ module _ (s : List ℕ) (k c v t : ℕ) (h : openCheck s ≡ 0) where
         accepted bs = unfold recordCheck first unless in (rw (h, handle-at (lentBy s bs) k c e .0, a, b))
 
 pub not-opened : (s : List ℕ) (k c v t : ℕ) (r : Refusal) → numberOf r ≡ openCheck s → (bs : List Bool) → numberOf r ≡ recordCheck (lentBy s bs) k c v t
-not-opened s k c v t r e bs = go (numberOf r) (some-number r) e
+not-opened s k c v t r e bs = go (numberOf r) (refusal-no r) e
   where
     go : (n : ℕ) → n ≢ 0 → n ≡ openCheck s → n ≡ recordCheck (lentBy s bs) k c v t
     go zero z e = absurd (z refl)

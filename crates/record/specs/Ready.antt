@@ -14,6 +14,7 @@ use Rattle.model.specs.Image.{openCheck}
 use Rattle.model.specs.Ring.{ColumnValue, write}
 use Rattle.model.specs.Lent.{Lent, ring, withRing, rowNo}
 use Rattle.model.specs.Record.{recordCheck, recordOn, writeTo}
+use Rattle.rows.specs.First.{refusal-no}
 use Rattle.ring.specs.Parts.{one}
 use Rattle.lent.specs.Parts.{finestOf}
 use Rattle.lent.specs.declared.Finest.the-variants.{At}
@@ -21,7 +22,6 @@ use Rattle.lent.specs.Handle.{handle-at}
 use Rattle.record.specs.declared.Target.{Target}
 use Rattle.record.specs.declared.Target.the-variants as R
 use Rattle.record.specs.Done.{RecordDone}
-use Rattle.record.specs.Numbers.{some-number}
 
 abbrev pub lentBy : List ℕ → List Bool → Lent
 lentBy s bs = record { image = s; flags = bs }
@@ -52,7 +52,7 @@ pub record RowWritten (s u : List ℕ) (i : ℕ) (es : List ColumnValue) (t : �
 module _ (s : List ℕ) (bs : List Bool) (k c v t : ℕ) where
   -- a refusal leaves what was lent
   pub refused : (r : Refusal) → Readied s k c v t (R.Refused r) → RecordDone (lentBy s bs) k c v t (numberOf r) (lentBy s bs)
-  refused r e = go (numberOf r) (some-number r) (e bs)
+  refused r e = go (numberOf r) (refusal-no r) (e bs)
     where
       go : (n : ℕ) → n ≢ 0 → n ≡ recordCheck (lentBy s bs) k c v t → RecordDone (lentBy s bs) k c v t n (lentBy s bs)
       go zero z e = absurd (z refl)

@@ -3,7 +3,7 @@ use mathlib.Core.Path.{_≡_, sym, ap, _∙_}
 use Rattle.model.specs.Words.{outcomeNo}
 use Rattle.model.specs.Record.{entries}
 use Rattle.bits.specs.One.{lentAt}
-use Rattle.record.specs.Numbers.{some-number}
+use Rattle.rows.specs.First.{not-accepted}
 use Rattle.batch.proofs.Laws.{not-opened}
 use borrow.Author.Needs.{needs}
 use Rattle.batch.proofs.record_plainly.Statement.{statement}
@@ -24,8 +24,7 @@ same-length c = search needs
 returns : tie.Need-returns
 returns c =
     let start = c .before .before .before .before .before .before in
-    let e = c .enum-told2 .given .1 in
-    not-opened (lentAt (start .args .image .now) (start .args .flags)) (start .args .stamp) (entries (start .args .batch .now)) (outcomeNo (c .before .before .check-image .result)) (c .before .before .check-image .ensures) (λ z. some-number (c .enum-told2 .given .0 .0) (sym (ap outcomeNo e) ∙ z))
+    not-opened (lentAt (start .args .image .now) (start .args .flags)) (start .args .stamp) (entries (start .args .batch .now)) (outcomeNo (c .before .before .check-image .result)) (c .before .before .check-image .ensures) (not-accepted (c .enum-told2 .given .1))
 
 batch-opened-requires : tie.Need-batch-opened-requires
 batch-opened-requires c κs = sym (c .before .before .before .check-image .ensures) ∙ ap outcomeNo (c .before .enum-told .given .1)
