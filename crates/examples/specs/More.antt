@@ -55,9 +55,6 @@ rows =
     ∷ (reopened (ring10 1) (rec 10 1 ∷ rec 20 2 ∷ []) (everything 0) gives last (false ∷ []) (0 ∷ []) (points 0 (At 20) (At 20) 0 end64 true (at 20 2 ∷ [])))
     -- the count is of writes, not of windows
     ∷ (story (by 1) (both 20 (num 1) (num 2) ∷ both 30 (num 3) (num 4) ∷ consolidateCall ∷ []) gives last (false ∷ false ∷ []) (30 ∷ 0 ∷ []) (writes 2))
-    -- windows before columns: the coarser ring's slots are written in rising order, so its flag stays
-    ∷ (story (tier 0 10 40 0 ∷ tier 1 20 60 1 ∷ []) (both 20 (num 1) (num 2) ∷ both 40 (num 3) (num 4) ∷ consolidateCall ∷ [])
-    gives last (true ∷ false ∷ []) (40 ∷ 0 ∷ []) (writes 4))
     -- each function by its number: Min, Max, Last, Sum, Count of 3 and 2
     ∷ (story (by 2) (rec 20 3 ∷ rec 30 2 ∷ consolidateCall ∷ everything 1 ∷ []) gives last (false ∷ false ∷ []) (30 ∷ 0 ∷ []) (points 1 (At 20) (At 20) 0 end64 true (at 20 2 ∷ [])))
     ∷ (story (by 3) (rec 20 3 ∷ rec 30 2 ∷ consolidateCall ∷ everything 1 ∷ []) gives last (false ∷ false ∷ []) (30 ∷ 0 ∷ []) (points 1 (At 20) (At 20) 0 end64 true (at 20 3 ∷ [])))
@@ -85,7 +82,7 @@ rows =
 
 pub every-row : Holds rows
 unfolding Cases-defs both covering small by rows
-every-row = (refl, (refl, (refl, (refl, (refl, (refl, (refl, (refl, (refl, (refl, (refl, (refl, (refl, (refl, (refl, (refl, (refl, (refl, (refl, (refl, (refl, (refl, (refl, (refl, (refl, (refl, (refl, (refl, (refl, tt)))))))))))))))))))))))))))))
+every-row = (refl, (refl, (refl, (refl, (refl, (refl, (refl, (refl, (refl, (refl, (refl, (refl, (refl, (refl, (refl, (refl, (refl, (refl, (refl, (refl, (refl, (refl, (refl, (refl, (refl, (refl, (refl, (refl, tt))))))))))))))))))))))))))))
 
 -- ---- several schemas: schema 1 has two tiers after schema 0's one
 

@@ -1,4 +1,5 @@
--- An example of every refusal 1 to 16, and of the order in which they are tried, by computation; some with what they leave. Assumes nothing.
+-- An example of every refusal 1 to 16, and of the order in which they are tried, by computation; some with what they leave; the order of a run's writes.
+-- Assumes nothing.
 use Prim.Native.Nat.{ℕ, zero, suc, _+_, _-_, _*_, _^_}
 use mathlib.Core.Path.{_≡_, refl}
 use mathlib.Core.Bool.{Bool, true, false}
@@ -9,7 +10,7 @@ use Rattle.model.specs.Bytes.{put}
 use Rattle.model.specs.Image.{createCheck, openCheck}
 use Rattle.model.specs.Lent.{Lent, creation}
 use Rattle.model.specs.Record.{Entry}
-use Rattle.model.specs.Store.{Call, Reply, call, recordCall, batchCall, queryCall, autoCall, consolidateCall, refused, done, wrote, read}
+use Rattle.model.specs.Store.{Call, Reply, call, after, recordCall, batchCall, queryCall, autoCall, consolidateCall, refused, done, wrote, read}
 use Rattle.model.specs.Cases.{Cases-defs, tierOf, tier, planOf, plan, ring10, fresh, infinity}
 
 -- a slice that is long enough for the small plans here
@@ -178,3 +179,13 @@ pub unchanged :
     × (call late consolidateCall .lent ≡ late) × (creation [] late ≡ late)
 unfolding Refusals-defs
 unchanged = (refl, refl, refl, refl, refl, refl, refl)
+
+-- a run writes by window, then by column: two windows of two columns fill the coarser ring's slots in rising order, so its flag stays false. By column, then
+-- by window, the second column would begin below the cursor
+unfoldable pub twoWindows : Lent
+twoWindows =
+    after (fresh (tier 0 10 40 0 ∷ tier 1 20 60 1 ∷ [])) (batchCall (entry 0 0 0 ∷ entry 0 1 0 ∷ []) 20 ∷ batchCall (entry 0 0 0 ∷ entry 0 1 0 ∷ []) 40 ∷ consolidateCall ∷ [])
+
+pub windows-then-columns : take 2 (twoWindows .flags) ≡ true ∷ false ∷ []
+unfolding Refusals-defs twoWindows
+windows-then-columns = refl
