@@ -1,7 +1,7 @@
-// A plot of a column's points in characters: 16 rows, 64 columns. Where points share a column of characters the least and the greatest are drawn, and a line
+// A plot of a column's points in characters: 16 rows, 64 columns. Where points share a column of characters the least and the greatest are drawn, and dots
 // between them. Values are counted in units of 2^-20 above -2^43, so all is done in whole numbers.
 
-// Where the points lie: how many are drawn and how many are not, first and last stamp, least and greatest value.
+// Where the points lie: how many are drawn and how many are not, first and last stamp, least and greatest height and the values there.
 struct Extent {
     count: u64,
     left_out: u64,
@@ -9,6 +9,8 @@ struct Extent {
     last: u64,
     low: u64,
     high: u64,
+    least: u64,
+    greatest: u64,
 }
 
 // The scale: the first stamp and the time of one column of characters, the least value and the size of one row.
@@ -51,28 +53,29 @@ fn greatest(a: u64, b: u64) -> u64 {
     if a < b { b } else { a }
 }
 
-// One more, where that fits.
-fn more(x: u64) -> u64 {
-    if x == 0xffff_ffff_ffff_ffff {
-        return x;
-    }
-    x + 1
-}
-
 // How far b is above a; 0 where it is not.
 fn above(a: u64, b: u64) -> u64 {
     if a < b { b - a } else { 0 }
 }
 
-// The extent with a point that is drawn.
-fn with_height(e: Extent, stamp: u64, h: u64) -> Extent {
+// a or b.
+fn pick(first: bool, a: u64, b: u64) -> u64 {
+    if first { a } else { b }
+}
+
+// The extent with a point that is drawn at a height.
+fn with_height(e: Extent, p: model::Point, h: u64) -> Extent {
+    let lower = h < e.low;
+    let higher = e.high < h;
     Extent {
-        count: more(e.count),
+        count: std::num::wrapping_add_u64(e.count, 1),
         left_out: e.left_out,
-        first: least(e.first, stamp),
-        last: greatest(e.last, stamp),
-        low: least(e.low, h),
-        high: greatest(e.high, h),
+        first: least(e.first, p.stamp),
+        last: greatest(e.last, p.stamp),
+        low: pick(lower, h, e.low),
+        high: pick(higher, h, e.high),
+        least: pick(lower, p.value, e.least),
+        greatest: pick(higher, p.value, e.greatest),
     }
 }
 
@@ -80,14 +83,16 @@ fn with_height(e: Extent, stamp: u64, h: u64) -> Extent {
 fn with_point(e: Extent, p: model::Point) -> Extent {
     let height = height_of(p.value);
     match height {
-        Height::At(h) => with_height(e, p.stamp, h),
+        Height::At(h) => with_height(e, p, h),
         Height::Nowhere => Extent {
             count: e.count,
-            left_out: more(e.left_out),
+            left_out: std::num::wrapping_add_u64(e.left_out, 1),
             first: e.first,
             last: e.last,
             low: e.low,
             high: e.high,
+            least: e.least,
+            greatest: e.greatest,
         },
     }
 }
@@ -101,6 +106,8 @@ fn extent_of(slab: &[u8], column: u32, start: u64, end: u64, from: model::Place)
         last: 0,
         low: 0xffff_ffff_ffff_ffff,
         high: 0,
+        least: 0,
+        greatest: 0,
     };
     let mut place = from;
     let mut turns = place.left;
@@ -200,7 +207,7 @@ fn mark(row: u64, low: u64, high: u64) -> u8 {
     if row + 1 == high {
         return b'*';
     }
-    b'|'
+    b':'
 }
 
 // Fills in a row's characters.
@@ -237,7 +244,7 @@ fn put_height(h: u64) {
 // What stands left of a row: the greatest value, the middle and the least have their figures.
 fn put_axis(e: Extent, row: u64) {
     if row == 15 {
-        put_height(e.high);
+        text::put_value(1, e.greatest, 16);
         text::put(1, b" +");
         return;
     }
@@ -247,7 +254,7 @@ fn put_axis(e: Extent, row: u64) {
         return;
     }
     if row == 0 {
-        put_height(e.low);
+        text::put_value(1, e.least, 16);
         text::put(1, b" +");
         return;
     }

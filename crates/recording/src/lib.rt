@@ -116,21 +116,13 @@ fn is_empty(line: &[u8]) -> bool {
     line[from] == b'#'
 }
 
-// One more, where that fits.
-fn more(x: u64) -> u64 {
-    if x == 0xffff_ffff_ffff_ffff {
-        return x;
-    }
-    x + 1
-}
-
 // Goes on to the next line.
 fn next_line(s: Intake, t: Taken, samples: u64) -> Intake {
     let flags = t.flags;
     Intake {
         good: t.good,
         flags: flags,
-        number: more(s.number),
+        number: std::num::wrapping_add_u64(s.number, 1),
         held: 0,
         samples: samples,
     }
@@ -148,7 +140,7 @@ fn take_line(image: &mut [u8], line: &[u8], s: Intake) -> Intake {
         return next_line(s, t, s.samples);
     }
     let t = take(image, flags, line, s.number);
-    next_line(s, t, more(s.samples))
+    next_line(s, t, std::num::wrapping_add_u64(s.samples, 1))
 }
 
 // Takes the line whose bytes have come.
