@@ -214,6 +214,7 @@ fn parts(s: &mut Session, seed: u64, lists: u64, length: u64) {
     s.part("any series", |s| each(s, lists, &|r| generate::any_series(r, length)));
     s.part("readers", |s| each(s, lists, &|r| generate::readers(r, length)));
     s.part("damaged", |s| each(s, 10 * lists, &generate::damaged));
+    s.part("long", |s| each(s, lists / 100, &generate::long));
     s.part("large", special::large);
     s.part("third demand", |s| {
         for i in 0..lists / 20 {
