@@ -5,7 +5,11 @@ use mathlib.Core.Bool.{Bool, true, false}
 use mathlib.Core.List.{List, [], _∷_, _++_, map}
 use lib.ListN.{length, take, drop, replicate}
 use Rattle.model.specs.declared.Row.{Row}
+use lib.IntN.{pos}
+use lib.Ieee.{binary64, ofBits}
 use Rattle.model.specs.declared.Point.{Point}
+use Rattle.model.specs.declared.Next.the-variants.{Handed, Finished}
+use Rattle.model.specs.declared.Stepped.{Stepped}
 use Rattle.model.specs.declared.End.{End}
 use Rattle.model.specs.declared.End.the-variants.{At, Missing}
 use Rattle.model.specs.declared.ConsolidationFn.the-variants.{Average, Min, Max, Last, Sum, Count}
@@ -13,7 +17,9 @@ use Rattle.model.specs.Bytes.{bytes, put, part}
 use Rattle.model.specs.Layout.{freshValue}
 use Rattle.model.specs.Image.{planCheck, openCheck}
 use Rattle.model.specs.Ring.{Ring, write, stamp, cell}
+use Rattle.model.specs.Read.{step}
 use Rattle.model.specs.Lent.{Lent, creation, opening, ring}
+use Rattle.model.specs.Demand.{Demand-defs, within}
 use Rattle.model.specs.Record.{Entry, entries}
 use Rattle.model.specs.Store.{Call, Reply, Done, call, recordCall, batchCall, queryCall, autoCall, consolidateCall, refused, done, wrote, read}
 use Rattle.model.specs.Cases.{Cases-defs, tierOf, tier, planOf, plan, num, infinity, fresh, Question, story, reopened, window, Shown, refusal, accepted, writes, points, Result, last, value, empty, nothingFinite, Case, _gives_, Holds, ring10, two, rec, end64, everything, at, lastCall, shownOn}
@@ -154,3 +160,21 @@ opening-order = refl
 pub layout-edge : planCheck (plan (tierOf 0 0 1 886_702_925 0 154 ∷ [])) ∷ planCheck (plan (tierOf 0 0 1 886_702_926 0 154 ∷ [])) ∷ [] ≡ 0 ∷ 8 ∷ []
 unfolding Cases-defs
 layout-edge = refl
+
+-- opening leaves the flags past R, and reads no more of a place than its slab has: with two slots left of one the reader is at its end
+pub opened-flags : opening (record { image = tiny .image; flags = replicate 32 true }) .flags ≡ false ∷ replicate 31 true
+unfolding Cases-defs tiny
+opened-flags = refl
+
+unfoldable pub stepWith : ℕ → Stepped
+stepWith k = step (ring (call tiny (recordCall 0 1 (num 3) 10) .lent) 0 .slab) 1 0 end64 (record { slot = 0; left = k })
+
+pub slots-left : (stepWith 1 .next ≡ Handed (at 10 3)) × (stepWith 2 .next ≡ Finished)
+unfolding Cases-defs tiny stepWith
+slots-left = (refl, refl)
+
+-- ---- the third demand's distance: 1/3 rounded once is not 1/3, but within 1/4,096
+
+pub a-third : within 0 (ofBits binary64 0x3fd5_5555_5555_5555) (pos 1) 3 ∷ within 1 (ofBits binary64 0x3fd5_5555_5555_5555) (pos 1) 3 ∷ [] ≡ false ∷ true ∷ []
+unfolding Cases-defs Demand-defs
+a-third = refl

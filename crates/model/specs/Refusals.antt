@@ -1,6 +1,6 @@
 -- An example of every refusal 1 to 16, and of the order in which they are tried, by computation; some with what they leave; the order of a run's writes.
 -- Assumes nothing.
-use Prim.Native.Nat.{ℕ, zero, suc, _+_, _-_, _*_, _^_}
+use Prim.Native.Nat.{ℕ, zero, suc, _+_, _-_, _*_, _^_, min}
 use mathlib.Core.Path.{_≡_, refl}
 use mathlib.Core.Bool.{Bool, true, false}
 use mathlib.Core.List.{List, [], _∷_, _++_, map}
@@ -42,7 +42,7 @@ plans =
     -- 1: rows of a schema that disagree in max series; a tier left out; schemas that fall
     ∷ created (plan (tier 0 10 40 0 ∷ tierOf 0 1 20 40 1 3 ∷ [])) ∷ created (plan (tier 0 10 40 0 ∷ tier 2 20 40 1 ∷ []))
     ∷ created (planOf 2 (tierOf 1 0 10 40 0 2 ∷ tierOf 0 0 10 40 0 2 ∷ []))
-    -- 1: rows of a schema that disagree in hash; no schema and no row; 33 rows
+    -- 1: rows of a schema that disagree in hash; no schema and no row; 33 rows alike (33 in order: `edges`)
     ∷ created (put 8 (plan (tier 0 10 40 0 ∷ tier 1 20 40 1 ∷ [])) 152 8) ∷ created (planOf 0 []) ∷ created (planOf 8 (copiesOf 33 (tier 0 10 40 0)))
     -- 2: no rows; schema 1 has none; schema 0 has none
     ∷ created (plan []) ∷ created (planOf 2 (ring10 4)) ∷ created (planOf 2 (tierOf 1 0 10 40 0 2 ∷ []))
@@ -189,3 +189,31 @@ twoWindows =
 pub windows-then-columns : take 2 (twoWindows .flags) ≡ true ∷ false ∷ []
 unfolding Refusals-defs twoWindows
 windows-then-columns = refl
+
+-- where stamps fall in ring order, the windows still ascend: 40, 90, 60, 110 fill the coarser ring's slots 2, 3, 4, 5, so its flag stays false
+unfoldable pub fallingStamps : Lent
+fallingStamps =
+    after (fresh (tier 0 10 40 0 ∷ tier 1 20 160 1 ∷ [])) (recordCall 0 0 0 40 ∷ recordCall 0 0 0 90 ∷ recordCall 0 0 0 60 ∷ recordCall 0 0 0 110 ∷ consolidateCall ∷ [])
+
+pub windows-ascend : take 2 (fallingStamps .flags) ≡ false ∷ false ∷ []
+unfolding Refusals-defs fallingStamps
+windows-ascend = refl
+
+-- ---- further edges
+
+-- k tiers of one schema, from tier t on, their intervals rising
+unfoldable pub counting : ℕ → ℕ → List Row
+counting t zero = []
+counting t (suc k) = tier t (suc t) 64 (min t 1) ∷ counting (suc t) k
+
+-- 32 rows are not refused for their number (the slice is too short for their image), 33 are; a later schema begins with tier 0, too; 16 before 10; of a run's
+-- write at window 0 whose sum is infinite, 12 before 13
+unfoldable pub edges : List ℕ
+edges =
+    created (plan (counting 0 32)) ∷ created (plan (counting 0 33)) ∷ created (planOf 2 (tierOf 0 0 10 40 0 2 ∷ tierOf 1 1 10 40 0 2 ∷ []))
+    ∷ on (record { image = put 8 (store .image) 240 (2 ^ 63); flags = store .flags }) consolidateCall
+    ∷ on (after (fresh (tier 0 10 90 0 ∷ tier 1 30 90 5 ∷ [])) (recordCall 0 0 0x7fef_ffff_ffff_ffff 10 ∷ recordCall 0 0 0x7fef_ffff_ffff_ffff 20 ∷ [])) consolidateCall ∷ []
+
+pub edges-are : edges ≡ 9 ∷ 1 ∷ 1 ∷ 16 ∷ 12 ∷ []
+unfolding Refusals-defs counting edges
+edges-are = refl
