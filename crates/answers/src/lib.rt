@@ -2,7 +2,6 @@
 // that document 01 names. A write tests 12, then 13; a refusal leaves the slab and ends the filling.
 ghost use mathlib.Core.Path.{_≡_};
 ghost use Prim.Native.Nat.{_+_, _<_, _≤_};
-ghost use Rattle.model.specs.Record.{stampOk};
 ghost use Rattle.model.specs.Consolidate.{writeBits, writeAnswer};
 ghost use Rattle.rings.specs.Sound.{Sound};
 ghost use Rattle.window.specs.Parts.{Fine};
@@ -13,13 +12,6 @@ pub struct Filling {
     pub wrapped: bool,
     pub writes: u64,
     pub outcome: model::Outcome,
-}
-
-// A stamp that may be written: not 0, and below 2^63.
-fn stamp_ok(stamp: u64) -> bool
-    ensures { λ r. ⌜ r ≡ stampOk stamp ⌝ }
-{
-    0 < stamp && stamp < 0x8000_0000_0000_0000
 }
 
 // One value of a window, by its pattern.
@@ -45,7 +37,7 @@ fn write_bits(
             outcome: model::Outcome::Refused(model::Refusal::InvalidValue),
         };
     }
-    let good = stamp_ok(window);
+    let good = stamps::is_good(window);
     if !good {
         return Filling {
             wrapped: wrapped,
