@@ -116,7 +116,7 @@ static inline double rondo_double(uint64_t bits) {
 
 /*
  * The size of the image that a plan needs, into *size. Refuses 1 to 8, and then leaves *size.
- * A longer block than the plan may be lent; what is behind the plan is not read.
+ * A longer block than the plan may be lent; what stands past the plan is not read.
  */
 uint32_t rondo_image_size(const uint8_t *plan, size_t plan_len, uint64_t *size);
 
@@ -191,7 +191,8 @@ uint32_t rondo_query_auto(const uint8_t *image, size_t image_len, uint32_t flags
 
 /*
  * One step of a reader over a slab: 1, the point into *point and *place moved on; or 0 at the end,
- * *point left. Any numbers may be handed in: a place outside the slab is the end.
+ * *point left and place->left 0. Any numbers may be handed in: a place outside the slab, or with
+ * more slots left than the slab has, is at the end.
  */
 uint32_t rondo_next(const uint8_t *slab, size_t slab_len, uint32_t column,
                     uint64_t start, uint64_t end,
@@ -207,8 +208,8 @@ static inline uint32_t rondo_next_point(const uint8_t *image, struct rondo_answe
 
 /*
  * Many steps in one call: stores the next points of a reader, as many as `words_len` / 2 has room
- * for, moves *place behind them and answers how many there are. Fewer than there is room for: the
- * reader is at its end. Words behind the stored points are left.
+ * for, moves *place past them and answers how many there are. Fewer than there is room for: the
+ * reader is at its end. Words past the stored points are left.
  */
 size_t rondo_read(const uint8_t *slab, size_t slab_len, uint32_t column,
                   uint64_t start, uint64_t end,

@@ -1,5 +1,5 @@
-// `record_batch` by value, with the flags as one number or as a record: opening's order on every call, then 11 for any entry, 13, 12, then one write to the finest ring of each schema that has entries
-// (Rust's `Store::record_batch`). A refused batch stores nothing; an empty one is accepted at any stamp and changes nothing.
+// `record_batch` by value, with the flags as one number or as a record: opening's order on every call, then 11 for any entry, 13, 12, then one write to the
+// finest ring of each schema that has entries (Rust's `Store::record_batch`). A refused batch stores nothing; an empty one is accepted at any stamp and changes nothing.
 ghost use mathlib.Core.Path.{_≡_};
 ghost use mathlib.Core.Bool.{true};
 ghost use Prim.Native.Nat.{_<_};

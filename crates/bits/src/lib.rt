@@ -54,7 +54,7 @@ pub fn number_of(flags: model::Flags) -> u32
     number_in(wrapped)
 }
 
-// Row's flag.
+// A row's flag.
 pub fn flag_at(number: u32, row: usize) -> bool
     requires { ⌜ row < 32 ⌝ }
     ensures { λ r. ⌜ r ≡ getD (bits 32 number) row false ⌝ }
@@ -62,7 +62,7 @@ pub fn flag_at(number: u32, row: usize) -> bool
     (number >> row) % 2 == 1
 }
 
-// The number with row's flag set to `flag`, where it was not set before or is still.
+// The number with a row's flag set to `flag`. A flag that is set stays set, as every write has it.
 pub fn with_flag(number: u32, row: usize, flag: bool) -> u32
     requires { ⌜ (row < 32) × (getD (bits 32 number) row false ≡ true → flag ≡ true) ⌝ }
     ensures { λ r. ⌜ bits 32 r ≡ set (bits 32 number) row flag ⌝ }

@@ -1,4 +1,4 @@
-// The bytes of a fresh image, written in place: header, rows with their slabs' places, slabs. Every byte behind the image stays.
+// The bytes of a fresh image, written in place: header, rows with their slabs' places, slabs. Every byte past the image stays.
 ghost use mathlib.Core.Path.{_≡_};
 ghost use mathlib.Core.Bool.{true};
 ghost use mathlib.Core.List.{_++_};

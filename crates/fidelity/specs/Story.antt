@@ -1,4 +1,4 @@
--- From creation through the calls up to a run to the query behind it, for one situation and its supposition: the stronger demand. The plan and the samples
+-- From creation through the calls up to a run to the query after it, for one situation and its supposition: the stronger demand. The plan and the samples
 -- make a set-up; the store that creation leaves belongs to it, and the calls keep that; the calls between change nothing; the query of a used column at tier k
 -- hands out one point for each window that is due, and its value is within k / 4,096 of its samples' exact mean. Assumes nothing.
 use Prim.Native.Nat.{ℕ, _+_, _-_, _*_, _%_, _^_, _≤_, _<_}

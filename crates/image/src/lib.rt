@@ -18,7 +18,7 @@ pub fn length_of(s: &[u8]) -> u64
     layout::image_length(s, n as usize)
 }
 
-// What creation and opening share behind the shape: 2 to 7 schema by schema, then 8.
+// What creation and opening share after the shape: 2 to 7 schema by schema, then 8.
 fn check_layout(s: &[u8]) -> model::Outcome
     requires { ⌜ shape (now s) ≡ true ⌝ }
     ensures { λ r. ⌜ outcomeNo r ≡ layoutCheck (now (s .entry)) ⌝ }

@@ -33,7 +33,7 @@ minusZero = 0x8000_0000_0000_0000
 unfoldable pub both : ℕ → ℕ → ℕ → Call
 both t a b = batchCall (record { schema = 0; column = 1; value = a } ∷ record { schema = 0; column = 0; value = b } ∷ []) t
 
--- two coarsest intervals, the run behind the second left to Situation; refused records, a query, an empty batch and a second run stand between
+-- two coarsest intervals, the run after the second left to Situation; refused records, a query, an empty batch and a second run stand between
 unfoldable pub calls : List Call
 calls =
     both 40 (num 1) minusZero ∷ recordCall 0 0 (num 3) 50 ∷ recordCall 0 1 (num 3) 0 ∷ recordCall 0 1 (minus 3) 50 ∷ both 60 (num 7) (num 7)

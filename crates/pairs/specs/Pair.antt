@@ -120,7 +120,7 @@ pub pair-is : (v : Run) (i : ℕ) {fn : ConsolidationFn} {n m d : ℕ} → funct
 unfolding pair pairBy pairWith
 pair-is v i {n = n} f s = rw (f, s .sound .slots-is, stamps-below (ring (v .lent) i .slab) 0 n (λ x l. s .low x (omega arith)))
 
--- where its reading starts: at the oldest stamp, or one interval behind the mark
+-- where its reading starts: at the oldest stamp, or one interval after the mark
 pub start-first : (x d y : ℕ) (r : Ring) → x ≡ 0 → oldest r ≡ At y → startOf x d r ≡ y
 unfolding startOf orZero
 start-first x d y r e o = rw (e, o)

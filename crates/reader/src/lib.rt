@@ -30,7 +30,7 @@ pub fn is_readable(slab: &[u8], column: u32, place: model::Place) -> bool
     (place.left as u64) <= n
 }
 
-// From a place on: the first slot that is handed out, and the place behind it.
+// From a place on: the first slot that is handed out, and the place after it.
 pub fn step_from(
     slab: &[u8],
     n: usize,

@@ -1,6 +1,6 @@
 // `record` by value: opening's order on every call, then 11, 12, 13, then the write to the schema's finest ring (Rust's `Store::record`). The row's slab is
-// lent on as a part of the image; other slabs' bytes, other rows' flags and the surplus stay. `ready` and `store` know one flag alone, so that a caller may keep
-// its flags as it likes.
+// lent on as a part of the image; other slabs' bytes, other rows' flags and the surplus stay. `ready` asks for no flag and `store`
+// for one, so that a caller may keep its flags as it likes.
 ghost use mathlib.Core.Path.{_≡_};
 ghost use mathlib.Core.Bool.{not};
 ghost use Prim.Native.Nat.{_<_};

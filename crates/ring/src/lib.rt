@@ -50,7 +50,7 @@ pub fn cursor_of(slab: &[u8], n: usize, m: usize) -> usize
     field::get_u32(slab, 32) as usize
 }
 
-// The slot behind a slot, round the ring.
+// The slot after a slot, round the ring.
 pub fn next_slot(n: usize, slot: usize) -> usize
     requires { ⌜ slot < n ⌝ }
     ensures { λ r. ⌜ (r ≡ suc slot % n) × (r < n) ⌝ }

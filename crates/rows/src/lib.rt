@@ -60,7 +60,7 @@ fn header_good(len: usize, magic: u64, version: u64, schemas: u64, rows: u64, ze
         & (32 + 64 * rows <= (len as u64))
 }
 
-// q may stand right behind p.
+// q may stand right after p.
 fn row_follows(p: model::Row, q: model::Row) -> bool
     ensures { λ r. ⌜ r ≡ follows p q ⌝ }
 {

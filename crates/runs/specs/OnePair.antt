@@ -96,7 +96,7 @@ module _ {S : Setup} {l : Lent} (b : Base S l) (k : ℕ) (hk : suc k < tierCount
   unfolding next
   next-is = ap (λ (d : ℕ). (firstNo S (suc k) + N * S .per (suc k)) * d) (sym (S .next-interval k hk)) ∙ end-stamp S (suc k) N hk
 
-  -- the first run starts at the oldest stamp, which is the first number's; a later one behind the mark
+  -- the first run starts at the oldest stamp, which is the first number's; a later one one interval after the mark
   start-is : startOf (row l k .mark) (row l k .interval) (ring l k) ≡ next
   start-is = go N refl
     where

@@ -1,4 +1,4 @@
--- The query behind a run. Calls without events leave the store as it is; the query of a used column over all time is not refused, and its reader hands out
+-- The query after a run. Calls without events leave the store as it is; the query of a used column over all time is not refused, and its reader hands out
 -- the newest numbers that the tier's ring holds, ascending, each with its value. Assumes nothing.
 use Prim.Native.Nat.{ℕ, zero, suc, _+_, _-_, _*_, _^_, _≤_, _<_}
 use native.Mathlib.Nat.{mul-le-mul-right, mul-pos}

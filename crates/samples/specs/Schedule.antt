@@ -69,7 +69,7 @@ ends-run d D (took x ∷ es) ys b h =
 
 -- ---- how far the ticks go
 
--- one tick more stays within the interval behind the last run
+-- one tick more stays within the interval after the last run
 pub stay : (d D ρ A N e p t : ℕ) (b : Bool) → D ≡ ρ * d → 0 < d → 0 < ρ → 0 < A → N * ρ ≤ e → e ≤ suc N * ρ → (b ≡ true → e ≡ N * ρ)
     → (0 < e → p + d ≡ (A * ρ + e) * d)
     → t + d ≡ (A * ρ + suc e) * d → mayTake d D p b t ≡ true → suc e ≤ suc N * ρ

@@ -1,9 +1,8 @@
-ghost use Prim.Native.Nat.{_<_};
-
 // A schedule of two hours through the proved code: 1 s for 1 h, 60 s for 24 h and 1 h for 30 days, two series, averages. Both series are recorded each second
 // from 01:00:00 on, the second of the minute and the number of the minute, and each hour is consolidated after its last second. One line a run says how many
 // values it wrote: two series of 60 minutes and of one hour. One line a tier and series says how many points a query over all time hands out, and the first
 // and the last of them, as seconds and tenths of a value.
+ghost use Prim.Native.Nat.{_<_};
 
 // A store of three tiers, made in a lent image.
 fn fresh(image: &mut [u8]) -> model::Flags {

@@ -51,7 +51,7 @@ pub fn or_zero(end: model::End) -> u64
     t
 }
 
-// One behind the newest stamp, or 0 without one.
+// One after the newest stamp, or 0 without one.
 fn end_after(newest: model::End) -> u64
     requires { ⌜ orZero newest < 2 ^ 63 ⌝ }
     ensures { λ r. ⌜ (r ≡ endAfter newest) × (r < 2 ^ 64) ⌝ }
@@ -62,7 +62,7 @@ fn end_after(newest: model::End) -> u64
     t + 1
 }
 
-// Where the reading starts: at the oldest stamp without a mark, else one source interval behind the mark.
+// Where the reading starts: at the oldest stamp without a mark, else one source interval after the mark.
 fn start_of(slab: &[u8], d: lent::Slab, wrapped: bool, mark: u64) -> u64
     requires { ⌜ Sound (now slab) (d .slots) (d .series) (d .interval) ⌝ }
     requires { ⌜ (mark < 2 ^ 63) × (d .interval < 2 ^ 63) ⌝ }

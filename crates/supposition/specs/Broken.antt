@@ -47,7 +47,7 @@ pub good-are : good ≡ true ∷ true ∷ true ∷ []
 unfolding Instance-defs isSupposedAt isSupposed good
 good-are = refl
 
--- the runs: none behind the first interval; one too early; one before a last sample; no sample at all
+-- the runs: none after the first interval; one too early; one before a last sample; no sample at all
 unfoldable pub offSchedule : List Bool
 offSchedule =
     isSupposed (both 20 (num 1) (num 2) ∷ both 30 (num 1) (num 2) ∷ both 40 (num 1) (num 2) ∷ both 50 (num 1) (num 2) ∷ [])

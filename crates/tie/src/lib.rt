@@ -27,7 +27,7 @@ fn carry_all(image: &mut [u8], flags: model::Flags, before: &[u8], between: &[u8
     calls::carry_out(image, ran, between)
 }
 
-// From a plan to the points of a query behind a run.
+// From a plan to the points of a query after a run.
 pub fn demand(
     plan: &[u8],
     image: &mut [u8],

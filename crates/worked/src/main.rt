@@ -1,9 +1,8 @@
+// The worked examples H, J and K of document 01, run through the proved code: 10 into 30, two series, averages. Each line is what a run answered, the mark
+// that it left, and the stamp and the value's pattern of one slot of the coarser tier.
 ghost use mathlib.Core.Path.{_≡_};
 ghost use Prim.Native.Nat.{_<_};
 ghost use lib.ListN.{length};
-
-// The worked examples H, J and K of document 01, run through the proved code: 10 into 30, two series, averages. Each line is what a run answered, the mark
-// that it left, and the stamp and the value's pattern of one slot of the coarser tier.
 
 // A fresh store of two tiers, 10 for 90 and 30 for 90.
 fn fresh(image: &mut [u8]) -> model::Flags {
