@@ -141,43 +141,33 @@ fn run(word: &[u8], buf: &mut [u8]) {
 fn help_changes() {
     text::put(
         1,
-        b"history create FILE series M tier INTERVAL RETENTION [FUNCTION] tier ... [schema series M tier ...]\n",
+        b"history create FILE series M tier INTERVAL RETENTION [FUNCTION] tier ... [schema series M tier ...]\n    makes a new image; FUNCTION of a coarser tier: average min max last sum count\n",
     );
     text::put(
         1,
-        b"    makes a new image; FUNCTION of a coarser tier: average min max last sum count\n",
+        b"history record FILE SCHEMA COLUMN STAMP VALUE\nhistory record FILE\n    records one sample, or the lines of standard input, each SCHEMA COLUMN STAMP VALUE: all of them or none\n",
     );
-    text::put(1, b"history record FILE SCHEMA COLUMN STAMP VALUE\n");
-    text::put(1, b"history record FILE\n");
     text::put(
         1,
-        b"    records one sample, or the lines of standard input, each SCHEMA COLUMN STAMP VALUE: all of them or none\n",
+        b"history consolidate FILE\n    brings every coarser tier up to date\n",
     );
-    text::put(1, b"history consolidate FILE\n");
-    text::put(1, b"    brings every coarser tier up to date\n");
 }
 
-// The commands that read a file.
+// The commands that read a file, and those without one.
 fn help_readings() {
-    text::put(1, b"history query FILE SCHEMA COLUMN TIER [START END]\n");
-    text::put(1, b"history plot FILE SCHEMA COLUMN TIER [START END]\n");
     text::put(
         1,
-        b"    the points from START up to END, of all time without them; TIER is a number or auto\n",
+        b"history query FILE SCHEMA COLUMN TIER [START END]\nhistory plot FILE SCHEMA COLUMN TIER [START END]\n    the points from START up to END, of all time without them; TIER is a number or auto\n",
     );
-    text::put(1, b"history show FILE\n");
-    text::put(1, b"    rows, slots used, ends, marks and wrap flags\n");
-    text::put(1, b"history check FILE\n");
     text::put(
         1,
-        b"    'good', or what the image is refused by, and where\n",
+        b"history show FILE\n    rows, slots used, ends, marks and wrap flags\nhistory check FILE\n    'good', or what the image is refused by, and where\n",
     );
+    text::put(1, b"history tour\n    the main job on a temporary image\n");
 }
 
 // What is common to all.
 fn help_forms() {
-    text::put(1, b"history tour\n");
-    text::put(1, b"    the main job on a temporary image\n");
     text::put(
         1,
         b"Times are whole numbers with a unit (ns us ms s min h d) or none (ns). VALUE is a decimal number, nan, or 0x and 16 hex digits.\n",

@@ -95,8 +95,14 @@ fn record_hour(shown: &[u8], path: &[u8], buf: &mut [u8], from: u64) {
     }
 }
 
-// Makes the image, and records and consolidates two hours.
-fn fill(path: &[u8], buf: &mut [u8]) {
+// Records an hour, and consolidates.
+fn add_hour(shown: &[u8], path: &[u8], buf: &mut [u8], from: u64) {
+    record_hour(shown, path, buf, from);
+    step(commands::CONSOLIDATE, b"consolidate", b"", path, buf);
+}
+
+// Makes the image.
+fn make(path: &[u8], buf: &mut [u8]) {
     step(
         commands::CREATE,
         b"create",
@@ -104,24 +110,10 @@ fn fill(path: &[u8], buf: &mut [u8]) {
         path,
         buf,
     );
-    record_hour(
-        b"$ history record clock.img < first-hour\n",
-        path,
-        buf,
-        3600,
-    );
-    step(commands::CONSOLIDATE, b"consolidate", b"", path, buf);
-    record_hour(
-        b"$ history record clock.img < second-hour\n",
-        path,
-        buf,
-        7200,
-    );
-    step(commands::CONSOLIDATE, b"consolidate", b"", path, buf);
 }
 
-// Looks at what the image holds then.
-fn look(path: &[u8], buf: &mut [u8]) {
+// Asks for points.
+fn ask(path: &[u8], buf: &mut [u8]) {
     step(commands::QUERY, b"query", b" 0 0 2", path, buf);
     step(
         commands::QUERY,
@@ -131,8 +123,29 @@ fn look(path: &[u8], buf: &mut [u8]) {
         buf,
     );
     step(commands::PLOT, b"plot", b" 0 0 1", path, buf);
+}
+
+// Looks at the image.
+fn look(path: &[u8], buf: &mut [u8]) {
     step(commands::SHOW, b"show", b"", path, buf);
     step(commands::CHECK, b"check", b"", path, buf);
+}
+
+// Makes the image, and fills it with two hours.
+fn fill(path: &[u8], buf: &mut [u8]) {
+    make(path, buf);
+    add_hour(
+        b"$ history record clock.img < first-hour\n",
+        path,
+        buf,
+        3600,
+    );
+    add_hour(
+        b"$ history record clock.img < second-hour\n",
+        path,
+        buf,
+        7200,
+    );
 }
 
 // The name of the image beside a temporary file.
@@ -146,6 +159,7 @@ fn image_name(name: &[u8], to: &mut [u8]) -> usize
 // Goes through the tour with an image of this name, and removes it.
 fn through(path: &[u8], buf: &mut [u8]) {
     fill(path, buf);
+    ask(path, buf);
     look(path, buf);
     os::unlink(path);
 }
