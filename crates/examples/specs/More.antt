@@ -178,3 +178,8 @@ slots-left = (refl, refl)
 pub a-third : within 0 (ofBits binary64 0x3fd5_5555_5555_5555) (pos 1) 3 ∷ within 1 (ofBits binary64 0x3fd5_5555_5555_5555) (pos 1) 3 ∷ [] ≡ false ∷ true ∷ []
 unfolding Cases-defs Demand-defs
 a-third = refl
+
+-- of a mean of 2 at tier 2: 2/4,096 off is within the bound, 3/4,096 is not
+pub at-the-bound : within 2 (ofBits binary64 0x4000_0100_0000_0000) (pos 2) 1 ∷ within 2 (ofBits binary64 0x4000_0180_0000_0000) (pos 2) 1 ∷ [] ≡ true ∷ false ∷ []
+unfolding Cases-defs Demand-defs
+at-the-bound = refl
