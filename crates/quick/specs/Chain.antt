@@ -13,7 +13,7 @@ use Rattle.model.specs.declared.Row.{Row}
 use Rattle.model.specs.Image.{unless, first, schemas, rowAt, rowsFrom, keepRow, tiersOf, tierCheck, tierChecks, rising, schemaCheck, schemaChecks}
 use Rattle.laws.specs.Tests.{yes-lt, yes-eq, no-eq}
 
--- q right after p: the same schema, with a longer interval, or the first row of the next schema, without a function
+-- q right after p: the same schema, with a longer interval, or the first row of the next schema, with some series and no function
 pub record SameSchema (p q : Row) : Type 0 where
   pub schema-is : q .schema ≡ p .schema
   pub longer : p .interval < q .interval
@@ -21,16 +21,15 @@ pub record SameSchema (p q : Row) : Type 0 where
 pub record NextSchema (p q : Row) : Type 0 where
   pub schema-is : q .schema ≡ suc (p .schema)
   pub no-function : q .function ≡ 0
+  pub some-series : 0 < q .series
 
 -- the rows from row i up to row e
 pub record Chain (s : List ℕ) (i e : ℕ) : Type 0 where
-  pub some-series : (j : ℕ) → i ≤ j → j < e → 0 < rowAt s j .series
   pub tier-passes : (j : ℕ) → i ≤ j → j < e → tierCheck (rowAt s j) ≡ 0
   pub joins : (j : ℕ) → i ≤ j → suc j < e → SameSchema (rowAt s j) (rowAt s (suc j)) ⊎ NextSchema (rowAt s j) (rowAt s (suc j))
 
 later : {s : List ℕ} {i e : ℕ} → Chain s i e → Chain s (suc i) e
 later c = record {
-  some-series = λ j a b. c .some-series j (omega arith) b;
   tier-passes = λ j a b. c .tier-passes j (omega arith) b;
   joins = λ j a b. c .joins j (omega arith) b;
 }
@@ -80,15 +79,15 @@ behind s x i (suc k) c h =
 
 -- ---- schema x, from a row of it or of an earlier schema on
 
-first-row-passes : (s : List ℕ) (x i k : ℕ) → Chain s i (i + suc k) → rowAt s i .schema ≡ x → rowAt s i .function ≡ 0 → schemaCheck (tiersOf x (rowsFrom s i (suc k))) ≡ 0
+first-row-passes : (s : List ℕ) (x i k : ℕ) → Chain s i (i + suc k) → rowAt s i .schema ≡ x → (rowAt s i .function ≡ 0) × (0 < rowAt s i .series) → schemaCheck (tiersOf x (rowsFrom s i (suc k))) ≡ 0
 unfolding tiersOf rowsFrom keepRow schemaCheck first unless tierChecks
 first-row-passes s x i k c h f =
     let e : i + suc k ≡ suc i + k = omega arith in
     let b = behind s x i k (rw e at c) h in
     let t : eqb (rowAt s i .schema) x ≡ true = ap (λ (y : ℕ). eqb y x) h ∙ yes-eq x in
-    rw (t, yes-lt 0 (rowAt s i .series) (c .some-series i (omega arith) (omega arith)), c .tier-passes i (omega arith) (omega arith), b .tiers-pass, b .rises, f)
+    rw (t, yes-lt 0 (rowAt s i .series) (f .1), c .tier-passes i (omega arith) (omega arith), b .tiers-pass, b .rises, f .0)
 
-passes-from : (s : List ℕ) (x i k : ℕ) → Chain s i (i + suc k) → rowAt s i .schema ≤ x → (rowAt s i .schema ≡ x → rowAt s i .function ≡ 0) → x ≤ rowAt s (i + k) .schema
+passes-from : (s : List ℕ) (x i k : ℕ) → Chain s i (i + suc k) → rowAt s i .schema ≤ x → (rowAt s i .schema ≡ x → (rowAt s i .function ≡ 0) × (0 < rowAt s i .series)) → x ≤ rowAt s (i + k) .schema
     → schemaCheck (tiersOf x (rowsFrom s i (suc k))) ≡ 0
 passes-from s x i zero c h f l = let e : i + 0 ≡ i = omega arith in let q : rowAt s i .schema ≡ x = omega (arith, rw e at l) in first-row-passes s x i zero c q (f q)
 passes-from s x i (suc k) c h f l =
@@ -97,7 +96,7 @@ passes-from s x i (suc k) c h f l =
     go (ℕ-discrete (rowAt s i .schema) x) (λ a b. passes-from s x (suc i) k (rw e at (later c)) a b (rw m at l))
   where
     go : Dec (rowAt s i .schema ≡ x)
-        → (rowAt s (suc i) .schema ≤ x → (rowAt s (suc i) .schema ≡ x → rowAt s (suc i) .function ≡ 0) → schemaCheck (tiersOf x (rowsFrom s (suc i) (suc k))) ≡ 0)
+        → (rowAt s (suc i) .schema ≤ x → (rowAt s (suc i) .schema ≡ x → (rowAt s (suc i) .function ≡ 0) × (0 < rowAt s (suc i) .series)) → schemaCheck (tiersOf x (rowsFrom s (suc i) (suc k))) ≡ 0)
         → schemaCheck (tiersOf x (rowsFrom s i (suc (suc k)))) ≡ 0
     go (yes q) more = first-row-passes s x i (suc k) c q (f q)
     go (no q) more = skip (next (c .joins i (omega arith) (omega arith)))
@@ -110,7 +109,7 @@ passes-from s x i (suc k) c h f l =
 
         next : SameSchema (rowAt s i) (rowAt s (suc i)) ⊎ NextSchema (rowAt s i) (rowAt s (suc i)) → schemaCheck (tiersOf x (rowsFrom s (suc i) (suc k))) ≡ 0
         next (inl a) = more (omega (arith, a .schema-is)) (λ z. absurd (q (sym (a .schema-is) ∙ z)))
-        next (inr a) = more (omega (arith, a .schema-is)) (λ z. a .no-function)
+        next (inr a) = more (omega (arith, a .schema-is)) (λ z. (a .no-function, a .some-series))
 
 -- ---- all schemas
 
@@ -120,6 +119,6 @@ all-pass rs j zero h = refl
 all-pass rs j (suc k) h = rw (h j (omega arith) (omega arith), all-pass rs (suc j) k (λ x a b. h x (omega arith) (omega arith)))
 
 -- rows 0 up to n, the first of schema 0, the last of schema k - 1
-pub chain-passes : (s : List ℕ) (n k : ℕ) → Chain s 0 (suc n) → rowAt s 0 .schema ≡ 0 → rowAt s 0 .function ≡ 0 → k ≡ suc (rowAt s n .schema) → schemaChecks 0 k (rowsFrom s 0 (suc n)) ≡ 0
+pub chain-passes : (s : List ℕ) (n k : ℕ) → Chain s 0 (suc n) → rowAt s 0 .schema ≡ 0 → (rowAt s 0 .function ≡ 0) × (0 < rowAt s 0 .series) → k ≡ suc (rowAt s n .schema) → schemaChecks 0 k (rowsFrom s 0 (suc n)) ≡ 0
 chain-passes s n k c z f e =
     all-pass (rowsFrom s 0 (suc n)) 0 k (λ x a b. passes-from s x 0 n (rw zero-add c) (omega arith) (λ q. f) (rw zero-add (omega arith)))

@@ -20,7 +20,6 @@ use Rattle.quick.specs.Chain.{SameSchema, NextSchema, Chain, chain-passe
 
 -- a row by itself, and its slab
 pub record RowGood (s : List ℕ) (i : ℕ) : Type 0 where
-  pub some-series : 0 < rowAt s i .series
   pub some-interval : 0 < rowAt s i .interval
   pub interval-low : rowAt s i .interval < 2 ^ 63
   pub retention-low : rowAt s i .retention < 2 ^ 63
@@ -44,6 +43,7 @@ pub record Start (k : ℕ) (q : Row) : Type 0 where
   pub schema-is : q .schema ≡ k
   pub tier-is : q .tier ≡ 0
   pub no-function : q .function ≡ 0
+  pub some-series : 0 < q .series
 
 abbrev pub Joins : Row → Row → Type 0
 Joins p q = Tier p q ⊎ Start (suc (p .schema)) q
@@ -104,18 +104,17 @@ module _ (s : List ℕ) (n : ℕ) (p : Pass s n) where
 
   chain : Chain s 0 (suc n)
   chain = record {
-    some-series = λ j a b. p .good j (rw (p .count-is) b) .some-series;
     tier-passes = λ j a b. tier-passes s j (p .good j (rw (p .count-is) b));
     joins = λ j a b. go j (p .joins j (rw (p .count-is) b));
   }
     where
       go : (j : ℕ) → Joins (rowAt s j) (rowAt s (suc j)) → SameSchema (rowAt s j) (rowAt s (suc j)) ⊎ NextSchema (rowAt s j) (rowAt s (suc j))
       go j (inl a) = inl (record { schema-is = a .schema-is; longer = a .longer })
-      go j (inr a) = inr (record { schema-is = a .schema-is; no-function = a .no-function })
+      go j (inr a) = inr (record { schema-is = a .schema-is; no-function = a .no-function; some-series = a .some-series })
 
   layout : layoutCheck s ≡ 0
   unfolding layoutCheck first unless rows
-  layout = rw (p .count-is, chain-passes s n (schemas s) chain (p .starts .schema-is) (p .starts .no-function) (p .ends), yes-le (imageLength s) (2 ^ 40) (p .total-low))
+  layout = rw (p .count-is, chain-passes s n (schemas s) chain (p .starts .schema-is) (p .starts .no-function, p .starts .some-series) (p .ends), yes-le (imageLength s) (2 ^ 40) (p .total-low))
 
   -- opening's check passes
   pub opens : openCheck s ≡ 0

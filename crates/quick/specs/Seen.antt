@@ -5,42 +5,40 @@ use native.Mathlib.Numerals.{add-one}
 use native.Mathlib.Omega.{arith}
 use native.Mathlib.Decide.{ℕ-discrete}
 use mathlib.Core.Path.{_≡_, refl, sym, ap, _∙_}
+use mathlib.Core.Logic.{_⊎_, inl, inr}
 use mathlib.Core.List.{List}
-use lib.ListN.{length}
+use lib.ListN.{length, getD}
 use Rattle.model.specs.declared.Row.{Row}
-use Rattle.model.specs.Bytes.{get, part}
+use Rattle.model.specs.Bytes.{get, part, le}
 use Rattle.model.specs.Layout.{slotCount, slabLength}
 use Rattle.model.specs.Image.{schemas, rowCount, totalLength, rowPlace, rowAt, rowsFrom, rows, rowSlots, rowLength, slabsEnd, imageLength, slabOf, openCheck}
 use Rattle.model.specs.Ring.{slots, series, interval, cursor}
-use Rattle.laws.specs.Bytes.{get-part}
+use Rattle.laws.specs.Bytes.{get-part, get-suc}
 use Rattle.frame.specs.Checks.{Suits}
 use Rattle.frame.specs.Good.{slabStart, start-suc}
 use Rattle.quick.specs.Pass.{RowGood, Joins, Start, Pass, opens}
 
 pub record Head (s : List ℕ) : Type 0 where
-  pub long : 32 ≤ length s
+  pub long : 96 ≤ length s
   pub magic-is : get 4 s 0 ≡ 0x4f545352
   pub version-is : get 4 s 4 ≡ 1
   pub few-schemas : schemas s ≤ 8
   pub zero-is : get 8 s 24 ≡ 0
   pub some-rows : 0 < rowCount s
   pub few-rows : rowCount s ≤ 32
-  pub head-low : 32 + 64 * rowCount s ≤ totalLength s
-  pub total-low : totalLength s ≤ 2 ^ 40
+  pub head-low : 96 + 64 * rowCount s ≤ totalLength s
   pub fits : totalLength s ≤ length s
 
--- a row by itself
-pub record Alone (r : Row) : Type 0 where
-  pub some-series : 0 < r .series
-  pub function-low : r .function ≤ 6
-  pub mark-low : r .mark < 2 ^ 63
+-- q has what the rows of p's schema share, and a longer interval
+pub record Follows (p q : Row) : Type 0 where
+  pub series-is : q .series ≡ p .series
+  pub hash-is : q .hash ≡ p .hash
+  pub longer : p .interval < q .interval
 
--- a slab with n slots and m series, and its length, which is not great
-pub record Long (n m len : ℕ) : Type 0 where
-  pub length-is : len ≡ slabLength n m
-  pub few-slots : n < 134_217_728
-  pub head-in : 64 ≤ len
-  pub small : len < 2 ^ 36
+-- schema and tier of row i are no greater than i
+pub record Early (s : List ℕ) (i : ℕ) : Type 0 where
+  pub schema-low : rowAt s i .schema ≤ i
+  pub tier-low : rowAt s i .tier ≤ i
 
 -- n slots of interval d are what retention r has, and all are far below 2^63
 pub record Slotted (n d r : ℕ) : Type 0 where
@@ -48,22 +46,43 @@ pub record Slotted (n d r : ℕ) : Type 0 where
   pub rest : r < n * d + d
   pub low : n * d + d < 2 ^ 63
 
--- the slab's header but for its slots, at `at` of s
-pub record SlabHead (s : List ℕ) (at : ℕ) (r : Row) (n : ℕ) : Type 0 where
+-- the slab at `at` of s has the interval of row r, which has n slots
+pub record Timed (s : List ℕ) (at : ℕ) (r : Row) (n : ℕ) : Type 0 where
+  pub interval-is : get 8 s (at + 24) ≡ r .interval
+  pub slotted : Slotted n (r .interval) (r .retention)
+
+-- and with n slots it is as long as the row says, which is not great
+pub record Sized (s : List ℕ) (at : ℕ) (r : Row) (n : ℕ) : Type 0 where
+  pub length-is : r .len ≡ slabLength n (r .series)
+  pub few-slots : n < 134_217_728
+  pub head-in : 64 ≤ r .len
+  pub small : r .len < 2 ^ 31
+  pub timed : Timed s at r n
+
+-- and its header is the row's
+pub record Slab (s : List ℕ) (at : ℕ) (r : Row) : Type 0 where
   pub magic-is : get 4 s at ≡ 0x4f444e52
   pub version-is : get 4 s (at + 4) ≡ 1
   pub hash-is : get 8 s (at + 8) ≡ r .hash
   pub series-is : get 4 s (at + 20) ≡ r .series
-  pub interval-is : get 8 s (at + 24) ≡ r .interval
-  pub cursor-low : get 4 s (at + 32) < n
+  pub cursor-low : get 4 s (at + 32) < get 4 s (at + 16)
+  pub sized : Sized s at r (get 4 s (at + 16))
 
 -- row i, with its slab at `at`
 pub record Here (s : List ℕ) (i at : ℕ) : Type 0 where
-  pub alone : Alone (rowAt s i)
+  pub function-low : rowAt s i .function ≤ 6
+  pub mark-low : rowAt s i .mark < 2 ^ 63
   pub offset-is : rowAt s i .offset ≡ at
-  pub sized : Long (get 4 s (at + 16)) (rowAt s i .series) (rowAt s i .len)
-  pub slotted : Slotted (get 4 s (at + 16)) (rowAt s i .interval) (rowAt s i .retention)
-  pub head : SlabHead s at (rowAt s i) (get 4 s (at + 16))
+  pub slab : Slab s at (rowAt s i)
+
+-- eight bytes are two numbers side by side
+pub get-pair : (s : List ℕ) (o : ℕ) → o + 4 ≤ length s → get 8 s o ≡ get 4 s o + 4_294_967_296 * get 4 s (o + 4)
+get-pair s o h =
+    let four : (w : ℕ) → get (suc (suc (suc (suc w)))) s o ≡ getD s o 0 + 256 * (getD s (suc o) 0 + 256 * (getD s (suc (suc o)) 0 + 256 * (getD s (suc (suc (suc o))) 0 + 256 * get w s (suc (suc (suc (suc o))))))) =
+    λ w. rw (get-suc (suc (suc (suc w))) s o (omega arith), get-suc (suc (suc w)) s (suc o) (omega arith), get-suc (suc w) s (suc (suc o)) (omega arith), get-suc w s (suc (suc (suc o))) (omega arith)) in
+    let none : get 0 s (suc (suc (suc (suc o)))) ≡ 0 = unfold get part le in refl in
+    let e : suc (suc (suc (suc o))) ≡ o + 4 = omega arith in
+    omega (arith, four 4, four 0, none, ap (get 4 s) e)
 
 -- n slots of interval d and a rest below d
 slots-of : {n d r : ℕ} → Slotted n d r → r / d ≡ n
@@ -92,6 +111,14 @@ joins-more s n j h i l = go (ℕ-discrete i n)
     go (yes e) = rw (e, ← add-one n) h
     go (no e) = j i (omega arith)
 
+-- row 0, and the row after an early one
+pub early-first : (s : List ℕ) → Start 0 (rowAt s 0) → Early s 0
+early-first s h = record { schema-low = omega (arith, h .schema-is); tier-low = omega (arith, h .tier-is) }
+
+pub early-more : (s : List ℕ) (i : ℕ) → Early s i → Joins (rowAt s i) (rowAt s (i + 1)) → Early s (i + 1)
+early-more s i e (inl a) = record { schema-low = omega (arith, a .schema-is, e .schema-low); tier-low = omega (arith, a .tier-is, e .tier-low) }
+early-more s i e (inr a) = record { schema-low = omega (arith, a .schema-is, e .schema-low); tier-low = omega (arith, a .tier-is) }
+
 -- with the last row i
 pub joined-all : (s : List ℕ) (n i : ℕ) → Start 0 (rowAt s 0) → JoinsTo s i → i + 1 ≡ n → schemas s ≡ rowAt s i .schema + 1 → JoinedUpTo s n
 joined-all s n i st j e l = record {
@@ -103,52 +130,61 @@ joined-all s n i st j e l = record {
 -- the first n rows' slabs, which end at e
 pub record Placed (s : List ℕ) (n e : ℕ) : Type 0 where
   pub end-is : e ≡ slabStart s n
+  pub end-low : e ≤ 32 + 64 * rowCount s + 2_147_483_648 * n
   pub good : (i : ℕ) → i < n → RowGood s i
 
 pub placed-none : (s : List ℕ) → Placed s 0 (32 + 64 * rowCount s)
-placed-none s = record { end-is = unfold rowPlace slabsEnd rowsFrom in refl; good = λ i h. absurd (omega arith) }
+placed-none s = record { end-is = unfold rowPlace slabsEnd rowsFrom in refl; end-low = omega arith; good = λ i h. absurd (omega arith) }
 
 module _ (s : List ℕ) (i at : ℕ) (p : Placed s i at) (h : Here s i at) where
+  slab : Slab s at (rowAt s i)
+  slab = h .slab
+
+  sized : Sized s at (rowAt s i) (get 4 s (at + 16))
+  sized = h .slab .sized
+
+  slotted : Slotted (get 4 s (at + 16)) (rowAt s i .interval) (rowAt s i .retention)
+  slotted = h .slab .sized .timed .slotted
+
   slots-are : rowSlots (rowAt s i) ≡ get 4 s (at + 16)
   unfolding rowSlots slotCount
-  slots-are = slots-of (h .slotted)
+  slots-are = slots-of slotted
 
   suits : Suits (rowAt s i) (slabOf s (rowAt s i))
   unfolding slabOf slots series interval cursor
   suits =
       let r = rowAt s i in
-      let k = h .sized .head-in in
+      let k = sized .head-in in
       let word : (w q : ℕ) → q + w ≤ 64 → get w (part s (r .offset) (r .len)) q ≡ get w s (at + q) = λ w q l. get-part w s (r .offset) (r .len) q (omega arith) ∙ ap (λ (x : ℕ). get w s (x + q)) (h .offset-is) in
       let z : at + 0 ≡ at = omega arith in
       record {
-        magic-is = word 4 0 (omega arith) ∙ rw z (h .head .magic-is);
-        version-is = word 4 4 (omega arith) ∙ h .head .version-is;
-        hash-is = word 8 8 (omega arith) ∙ h .head .hash-is;
+        magic-is = word 4 0 (omega arith) ∙ rw z (slab .magic-is);
+        version-is = word 4 4 (omega arith) ∙ slab .version-is;
+        hash-is = word 8 8 (omega arith) ∙ slab .hash-is;
         slots-is = word 4 16 (omega arith) ∙ sym slots-are;
-        series-is = word 4 20 (omega arith) ∙ h .head .series-is;
-        interval-is = word 8 24 (omega arith) ∙ h .head .interval-is;
-        cursor-low = rw (word 4 32 (omega arith), slots-are) (h .head .cursor-low);
+        series-is = word 4 20 (omega arith) ∙ slab .series-is;
+        interval-is = word 8 24 (omega arith) ∙ sized .timed .interval-is;
+        cursor-low = rw (word 4 32 (omega arith), slots-are) (slab .cursor-low);
       }
 
   length-is : rowAt s i .len ≡ rowLength (rowAt s i)
   unfolding rowLength
-  length-is = h .sized .length-is ∙ rw slots-are
+  length-is = sized .length-is ∙ rw slots-are
 
   some-slot : rowAt s i .interval ≤ get 4 s (at + 16) * rowAt s i .interval
-  some-slot = let one : 1 ≤ get 4 s (at + 16) = omega (arith, h .head .cursor-low) in omega (arith, mul-le-mul-right (rowAt s i .interval) one)
+  some-slot = let one : 1 ≤ get 4 s (at + 16) = omega (arith, slab .cursor-low) in omega (arith, mul-le-mul-right (rowAt s i .interval) one)
 
   here-good : RowGood s i
   here-good =
-      let a = h .slotted in
+      let a = slotted in
       record {
-        some-series = h .alone .some-series;
         some-interval = omega (arith, a .held, a .rest);
         interval-low = omega (arith, a .low);
         retention-low = omega (arith, a .rest, a .low);
         kept = omega (arith, some-slot, a .held);
-        few-slots = rw slots-are (omega (arith, h .sized .few-slots));
-        function-low = h .alone .function-low;
-        mark-low = h .alone .mark-low;
+        few-slots = rw slots-are (omega (arith, sized .few-slots));
+        function-low = h .function-low;
+        mark-low = h .mark-low;
         offset-is = h .offset-is ∙ p .end-is;
         len-is = length-is;
         suits = suits;
@@ -158,7 +194,11 @@ module _ (s : List ℕ) (i at : ℕ) (p : Placed s i at) (h : Here s i at) where
   pub placed-more : Placed s (i + 1) (at + rowAt s i .len)
   placed-more =
       let e : i + 1 ≡ suc i = omega arith in
-      rw e (record { end-is = rw (p .end-is, length-is) (sym (start-suc s i)); good = λ j l. go j l (ℕ-discrete j i) })
+      rw e (record {
+        end-is = rw (p .end-is, length-is) (sym (start-suc s i));
+        end-low = omega (arith, p .end-low, sized .small);
+        good = λ j l. go j l (ℕ-discrete j i);
+      })
     where
       go : (j : ℕ) → j < suc i → Dec (j ≡ i) → RowGood s j
       go j l (yes q) = rw q here-good
@@ -169,7 +209,7 @@ module _ (s : List ℕ) (i at : ℕ) (p : Placed s i at) (h : Here s i at) where
 pub all-good : (s : List ℕ) (n : ℕ) → Head s → n ≡ rowCount s → JoinedUpTo s n → Placed s n (totalLength s) → openCheck s ≡ 0
 all-good s zero h c j p = absurd (omega (arith, h .some-rows))
 all-good s (suc n) h c j p = opens s n (record {
-  long = h .long;
+  long = omega (arith, h .long);
   magic-is = h .magic-is;
   version-is = h .version-is;
   few-schemas = h .few-schemas;
@@ -182,7 +222,7 @@ all-good s (suc n) h c j p = opens s n (record {
   ends = j .ends n refl;
   good = λ i l. p .good i (omega arith);
   total-is = total;
-  total-low = omega (arith, total, h .total-low);
+  total-low = omega (arith, total, c, h .few-rows, p .end-low);
   fits = omega (arith, total, h .fits);
 })
   where

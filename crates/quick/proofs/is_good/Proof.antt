@@ -27,7 +27,7 @@ slabs-good-requires : tie.Need-slabs-good-requires
 unfolding rowCount totalLength
 slabs-good-requires c κs =
     let h = c .before .before .before .before .before .head-good .ensures (c .before .before .before .before .if1 .taken) in
-    (omega (arith, h .few-rows), c .before .before .before .get-u32 .ensures .0, omega (arith, h .head-low, h .some-rows), omega (arith, h .head-low, h .fits), omega (arith, h .fits), omega (arith, h .total-low))
+    (omega (arith, h .few-rows), c .before .before .before .get-u32 .ensures .0, omega (arith, h .head-low, h .some-rows), omega (arith, h .head-low, h .fits), omega (arith, h .fits))
 
 returns : tie.Need-returns
 unfolding rowCount totalLength

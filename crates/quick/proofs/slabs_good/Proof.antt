@@ -1,5 +1,5 @@
 -- `quick::slabs_good` meets its contract. The loop's invariant: the first i slabs are good and end at `at`. Assumes nothing.
-use Prim.Native.Nat.{_+_, _-_, _*_, _^_, _≤_}
+use Prim.Native.Nat.{_+_, _-_, _*_, _≤_}
 use native.Mathlib.Omega.{arith}
 use mathlib.Core.Path.{_≡_, sym, ap, _∙_, subst}
 use mathlib.Core.Bool.{false≢true}
@@ -11,7 +11,7 @@ use Rattle.quick.proofs.slabs_good.Statement.{statement}
 use Rattle.quick.proofs.slabs_good.Tie as tie
 
 abbrev Inv-loop : tie.InvT-loop
-Inv-loop s n total last at₀ i₀ at i = (i ≤ n) × (at ≤ 2 ^ 41) × Placed s i at
+Inv-loop s n total last at₀ i₀ at i = (i ≤ n) × Placed s i at
 
 abbrev μ-loop : tie.MeasureT-loop
 μ-loop s n total last at₀ i₀ at i = n - i
@@ -28,7 +28,7 @@ add-at c = omega arith
 loop-holds : tie.Need-loop-holds Inv-loop μ-loop
 loop-holds c =
     let start = c .before in
-    (omega arith, omega arith, rw (start .pre .1) (placed-none (start .args .s .now)))
+    (omega arith, rw (start .pre .1) (placed-none (start .args .s .now)))
 
 place-good-requires : tie.Need-place-good-requires Inv-loop μ-loop
 place-good-requires c κs = (omega arith, omega arith)
@@ -40,7 +40,7 @@ add-at-2 : tie.Need-add-at-2 Inv-loop μ-loop
 add-at-2 c =
     let h = c .before .before .place-good .ensures (c .before .if1 .taken) in
     let e = ap (λ (r : Row). r .len) (c .row-at .ensures) in
-    omega (arith, h .1 .sized .small, e)
+    omega (arith, h .1 .slab .sized .small, e)
 
 add-i : tie.Need-add-i Inv-loop μ-loop
 add-i c = search needs
@@ -54,7 +54,7 @@ loop-again c =
     let turn = c .before .before .before .before .loop in
     let h = c .before .before .place-good .ensures (c .before .if1 .taken) in
     let e = ap (λ (r : Row). r .len) (c .row-at .ensures) in
-    (omega arith, omega (arith, h .0, h .1 .sized .small, e), rw e (placed-more (start .args .s .now) (turn .i) (turn .at) (turn .inv .2) (h .1)))
+    (omega arith, rw e (placed-more (start .args .s .now) (turn .i) (turn .at) (turn .inv .1) (h .1)))
 
 returns : tie.Need-returns Inv-loop μ-loop
 returns c = λ e. absurd (false≢true e)
@@ -65,7 +65,7 @@ returns-2 c =
     let turn = c .before .loop in
     λ e.
     let i-is : turn .i ≡ start .args .n = omega arith in
-    rw (i-is, eq-is (turn .at) (start .args .total) e) at (turn .inv .2)
+    rw (i-is, eq-is (turn .at) (start .args .total) e) at (turn .inv .1)
 
 pub slabs-good-spec : {M : Type 1} → statement M
 slabs-good-spec =
