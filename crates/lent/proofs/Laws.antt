@@ -1,10 +1,10 @@
 -- What a passed check tells of the places that the code reads: a row within the slice, its slab with its sizes; and the search for a schema's first row, one
 -- turn at a time. Assumes nothing.
 use Prim.Native.Nat.{ℕ, zero, suc, _+_, _-_, _*_, _≤_, _<_}
-use native.Mathlib.Nat.{add-zero, add-suc}
+use native.Mathlib.Nat.{add-zero, zero-add}
 use native.Mathlib.Numerals.{add-one}
 use native.Mathlib.Omega.{arith}
-use mathlib.Core.Path.{_≡_, refl, sym, ap, _∙_}
+use mathlib.Core.Path.{_≡_, refl, sym, ap, subst, _∙_}
 use mathlib.Core.Bool.{Bool, true, false, _&&_, cond}
 use mathlib.Core.List.{List}
 use lib.Dec.{ltb, eqb}
@@ -16,12 +16,12 @@ use Rattle.model.specs.Image.{schemas, rowCount, rowPlace, rowAt, rowsFrom, row
 use Rattle.model.specs.Ring.{slots}
 use Rattle.model.specs.Lent.{firstRow}
 use Rattle.model.specs.Record.{seriesOf}
-use Rattle.laws.specs.Tests.{yes-lt, no-lt}
+use Rattle.laws.specs.Tests.{yes-lt, no-lt, lt-is, eq-is}
 use Rattle.laws.specs.Bytes.{get-part}
 use Rattle.rings.specs.Sound.{Sound, header-in}
 use Rattle.frame.specs.Good.{Good, good-open, inside-slice, length-slab, slab-sound, tier-of}
 use Rattle.lent.specs.Parts.{SlabAt, finestOf}
-use Rattle.lent.specs.Handle.{series-there}
+use Rattle.lent.specs.Handle.{first-there, series-there}
 use Rattle.lent.specs.declared.Finest.the-variants.{At, Missing}
 
 module _ (s : List ℕ) (h : openCheck s ≡ 0) where
@@ -95,23 +95,52 @@ pub first-past : (s : List ℕ) (k i c : ℕ) → c ≤ i → i + firstRow k (ro
 unfolding firstRow rowsFrom
 first-past s k i c h = let f : c - i ≡ 0 = omega arith in rw (f, add-zero)
 
+-- one that is found has the schema
+first-has : (k : ℕ) (s : List ℕ) (i n : ℕ) → firstRow k (rowsFrom s i n) < n → rowAt s (i + firstRow k (rowsFrom s i n)) .schema ≡ k
+unfolding firstRow rowsFrom
+first-has k s i zero h = absurd (omega arith)
+first-has k s i (suc n) h = go (first-has k s (suc i) n) (eqb (rowAt s i .schema) k) refl h
+  where
+    f : ℕ
+    f = firstRow k (rowsFrom s (suc i) n)
+
+    go : (f < n → rowAt s (suc i + f) .schema ≡ k) → (b : Bool) → eqb (rowAt s i .schema) k ≡ b → cond b 0 (suc f) < suc n → rowAt s (i + cond b 0 (suc f)) .schema ≡ k
+    go later true e l = ap (λ (x : ℕ). rowAt s x .schema) (add-zero i) ∙ eq-is (rowAt s i .schema) k e
+    go later false e l = let m : i + suc f ≡ suc i + f = omega arith in rw m (later (omega arith))
+
 -- ---- the row of a handle's finest tier
 
 module _ (s : List ℕ) (h : openCheck s ≡ 0) (k c : ℕ) where
-  pub finest-none : schemas s ≤ k → finestOf s k c ≡ Missing
-  unfolding finestOf
-  finest-none l = rw (no-lt k (schemas s) l)
+  -- no row has a schema that is out of bounds
+  first-low : firstRow k (rows s) < rowCount s → k < schemas s
+  unfolding rows
+  first-low l =
+      let e : rowAt s (firstRow k (rowsFrom s 0 (rowCount s))) .schema ≡ k = rw zero-add at (first-has k s 0 (rowCount s) l) in
+      subst (λ (x : ℕ). x < schemas s) e (good-open s h .shape-is .schema-low (firstRow k (rowsFrom s 0 (rowCount s))) l)
 
-  -- with the schema's first row i and its max series m
-  module _ (i m : ℕ) (l : k < schemas s) (e : i ≡ firstRow k (rows s)) (f : m ≡ get 4 s (rowPlace i + 28)) where
-    series-is : seriesOf (tiersOf k (rows s)) ≡ m
-    unfolding rowAt
-    series-is = series-there s h k l ∙ rw (f, e)
-
-    pub finest-wide : m ≤ c → finestOf s k c ≡ Missing
+  -- with the schema's first row i
+  module _ (i : ℕ) (e : i ≡ firstRow k (rows s)) where
+    pub finest-none : rowCount s ≤ i → finestOf s k c ≡ Missing
     unfolding finestOf
-    finest-wide w = rw (yes-lt k (schemas s) l, series-is, no-lt c m w)
+    finest-none l = go (ltb k (schemas s)) refl
+      where
+        go : (b : Bool) → ltb k (schemas s) ≡ b → cond (b && ltb c (seriesOf (tiersOf k (rows s)))) (At (firstRow k (rows s))) Missing ≡ Missing
+        go true p = absurd (omega (arith, first-there s h k (lt-is k (schemas s) p)))
+        go false p = refl
 
-    pub finest-at : c < m → finestOf s k c ≡ At i
-    unfolding finestOf
-    finest-at w = rw (yes-lt k (schemas s) l, series-is, yes-lt c m w, e)
+    -- and its max series m
+    module _ (m : ℕ) (l : i < rowCount s) (f : m ≡ get 4 s (rowPlace i + 28)) where
+      low : k < schemas s
+      low = first-low (rw e at l)
+
+      series-is : seriesOf (tiersOf k (rows s)) ≡ m
+      unfolding rowAt
+      series-is = series-there s h k low ∙ rw (f, e)
+
+      pub finest-wide : m ≤ c → finestOf s k c ≡ Missing
+      unfolding finestOf
+      finest-wide w = rw (yes-lt k (schemas s) low, series-is, no-lt c m w)
+
+      pub finest-at : c < m → finestOf s k c ≡ At i
+      unfolding finestOf
+      finest-at w = rw (yes-lt k (schemas s) low, series-is, yes-lt c m w, e)

@@ -5,7 +5,7 @@ ghost use mathlib.Core.Bool.{false};
 ghost use Prim.Native.Nat.{_+_, _<_, _≤_};
 ghost use lib.ListN.{getD};
 ghost use Rattle.model.specs.Bytes.{get};
-ghost use Rattle.model.specs.Image.{schemas, rowCount, rowPlace, rows, openCheck};
+ghost use Rattle.model.specs.Image.{rowCount, rowPlace, rows, openCheck};
 ghost use Rattle.model.specs.Lent.{firstRow};
 ghost use Rattle.lent.specs.Parts.{SlabAt, finestOf, withFlag};
 
@@ -62,11 +62,10 @@ pub fn slab_at(image: &[u8], row: usize) -> Slab
     }
 }
 
-// The first row of a schema.
+// The first row of a schema; the number of rows where none has it.
 pub fn first_row(image: &[u8], schema: u64) -> usize
     requires { ⌜ openCheck (now image) ≡ 0 ⌝ }
-    requires { ⌜ schema < schemas (now image) ⌝ }
-    ensures { λ r. ⌜ (r ≡ firstRow schema (rows (now (image .entry)))) × (r < rowCount (now (image .entry))) ⌝ }
+    ensures { λ r. ⌜ (r ≡ firstRow schema (rows (now (image .entry)))) × (r ≤ rowCount (now (image .entry))) ⌝ }
 {
     let count = field::get_u32(image, 12) as usize;
     let mut i = 0;
@@ -85,11 +84,11 @@ pub fn finest_row(image: &[u8], schema: u64, column: u64) -> Finest
     requires { ⌜ openCheck (now image) ≡ 0 ⌝ }
     ensures { λ r. ⌜ r ≡ finestOf (now (image .entry)) schema column ⌝ }
 {
-    let count = field::get_u32(image, 8);
-    if schema >= count {
+    let count = field::get_u32(image, 12) as usize;
+    let row = first_row(image, schema);
+    if row >= count {
         return Finest::Missing;
     }
-    let row = first_row(image, schema);
     let series = row_u32(image, row, 28);
     if column >= series {
         return Finest::Missing;

@@ -3,6 +3,7 @@ use native.Mathlib.Nat.{add-zero}
 use mathlib.Core.Path.{_≡_, sym, ap, _∙_}
 use Rattle.model.specs.Lent.{rowNo}
 use Rattle.model.specs.Record.{entries, entriesOf, writeTo}
+use Rattle.lent.specs.Handle.{first-there}
 use Rattle.bits.specs.Bits.{bits}
 use Rattle.record.proofs.Laws.{lent-sound, lent-write}
 use Rattle.batch.proofs.Laws.{columns-at}
@@ -14,7 +15,9 @@ first-row-requires : tie.Need-first-row-requires
 first-row-requires c κs = search needs
 
 slab-at-requires : tie.Need-slab-at-requires
-slab-at-requires c κs = search needs
+slab-at-requires c κs =
+    let start = c .before .before .before .before .before in
+    (start .pre .0, rw (c .before .first-row .ensures .0) (first-there (start .args .image .now) (start .pre .0) (start .args .schema) (start .pre .1 .0)))
 
 flag-at-requires : tie.Need-flag-at-requires
 flag-at-requires c κs = search needs

@@ -6,7 +6,6 @@ use mathlib.Core.Path.{_≡_, sym, _∙_, subst}
 use borrow.Author.Tests.{eq-eqb, ne-eqb}
 use Rattle.model.specs.Image.{rowCount, rowsFrom, rows}
 use Rattle.model.specs.Lent.{firstRow}
-use Rattle.lent.specs.Handle.{first-there}
 use Rattle.lent.proofs.Laws.{header-in-slice, first-on, first-here, first-past}
 use borrow.Author.Needs.{needs}
 use Rattle.lent.proofs.first_row.Statement.{statement}
@@ -21,14 +20,14 @@ abbrev μ-loop : tie.MeasureT-loop
 get-u32-requires : tie.Need-get-u32-requires Inv-loop μ-loop
 get-u32-requires c κs =
     let start = c .before in
-    omega (arith, header-in-slice (start .args .image .now) (start .pre .0))
+    omega (arith, header-in-slice (start .args .image .now) (start .pre))
 
 loop-holds : tie.Need-loop-holds Inv-loop μ-loop
 unfolding rowCount rows
 loop-holds c = (search needs, c .get-u32 .ensures .0, rw (c .get-u32 .ensures .0, sub-zero, zero-add))
 
 row-u32-requires : tie.Need-row-u32-requires Inv-loop μ-loop
-row-u32-requires c κs = (c .before .before .before .before .pre .0, (omega arith, omega arith))
+row-u32-requires c κs = (c .before .before .before .before .pre, (omega arith, omega arith))
 
 returns : tie.Need-returns Inv-loop μ-loop
 returns c =
@@ -36,7 +35,7 @@ returns c =
     let turn = c .before .before .before .loop in
     let s = start .args .image .now in
     let e = sym (first-here s (start .args .schema) (turn .i) (c .before .before .before .before .get-u32 .result) (c .before .before .loop-test .taken) (eq-eqb _ _ (sym (c .before .row-u32 .ensures .0) ∙ c .if1 .taken))) ∙ turn .inv .2 in
-    (e, rw e (first-there s (start .pre .0) (start .args .schema) (start .pre .1)))
+    (e, omega arith)
 
 add-i : tie.Need-add-i Inv-loop μ-loop
 add-i c = search needs
@@ -58,7 +57,7 @@ returns-2 c =
     let turn = c .before .loop in
     let s = start .args .image .now in
     let e = sym (first-past s (start .args .schema) (turn .i) (c .before .before .get-u32 .result) (c .loop-test .left)) ∙ turn .inv .2 in
-    (e, rw e (first-there s (start .pre .0) (start .args .schema) (start .pre .1)))
+    (e, omega arith)
 
 pub first-row-spec : {M : Type 1} → statement M
 first-row-spec =
