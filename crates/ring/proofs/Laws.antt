@@ -1,7 +1,7 @@
 -- The ring's words at the places that the code works out, the next slot by compare and reset, and the place where a reading starts, case by case.
 -- Assumes nothing.
 use Prim.Native.Nat.{ℕ, suc, _+_, _*_, _%_, _≤_, _<_}
-use native.Mathlib.Nat.{mul-suc, mul-le-mul-left, mod-eq-of-lt, mod-self}
+use native.Mathlib.Nat.{mul-suc, mul-assoc, mul-le-mul-left, mod-eq-of-lt, mod-self}
 use native.Mathlib.Numerals.{add-one}
 use native.Mathlib.Omega.{arith}
 use mathlib.Core.Path.{_≡_, refl, sym}
@@ -18,6 +18,17 @@ use Rattle.ring.specs.Parts.{Sized, ringOf}
 -- column c's k bytes end where the next column's begin
 pub column-ends : (k c m : ℕ) → c < m → k * c + k ≤ k * m
 column-ends k c m h = omega (arith, mul-suc k c, mul-le-mul-left k h)
+
+-- in cells: the stamps and c columns behind the directory are c + 1 times n, and column c ends within m columns
+pub record Cells (n c m : ℕ) : Type 0 where
+  pub behind : 8 * (n * (c + 1)) ≡ 8 * n + 8 * n * c
+  pub ends : 8 * n * c + 8 * n ≤ 8 * n * m
+
+pub cells : (n c m : ℕ) → c < m → Cells n c m
+cells n c m h = record {
+  behind = rw (add-one c) (omega (arith, mul-suc n c, mul-assoc 8 n c));
+  ends = column-ends (8 * n) c m h;
+}
 
 pub next-in : (n i : ℕ) → i + 1 < n → i + 1 ≡ suc i % n
 next-in n i h = let e : suc i < n = omega arith in omega (arith, mod-eq-of-lt e)

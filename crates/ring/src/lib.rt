@@ -19,7 +19,7 @@ pub fn cell_place(n: usize, m: usize, column: usize, slot: usize) -> usize
     requires { ⌜ (slot < n) × (column < m) × (slabLength n m < 2 ^ 63) ⌝ }
     ensures { λ r. ⌜ (r ≡ columnAt n m column + 8 * slot) × (r + 8 ≤ slabLength n m) ⌝ }
 {
-    64 + 4 * m + 8 * n + 8 * n * column + 8 * slot
+    64 + 4 * m + 8 * (n * (column + 1) + slot)
 }
 
 // A slot's stamp.
