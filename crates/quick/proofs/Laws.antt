@@ -1,21 +1,24 @@
 -- What the quick pass works out: a slab's length, slots by a product, schema and tier by words. Assumes nothing.
 use Prim.Native.Nat.{ℕ, suc, _+_, _*_, _/_, _%_, _^_, _≤_, _<_}
-use native.Mathlib.Nat.{mul-suc, mul-assoc, mul-comm, mul-le-mul-right, mod-eq-of-lt}
+use native.Mathlib.Nat.{mul-add, mul-suc, mul-assoc, mul-comm, mul-le-mul-right, mod-eq-of-lt}
 use native.Mathlib.Numerals.{add-one}
 use native.Mathlib.Omega.{arith}
-use mathlib.Core.Path.{_≡_, refl, sym, _∙_}
-use mathlib.Core.Logic.{_⊎_, inl, inr}
+use mathlib.Core.Path.{_≡_, refl, sym, ap, _∙_}
+use mathlib.Core.Logic.{_≢_, _⊎_, inl, inr}
 use mathlib.Core.List.{List}
 use Rattle.model.specs.declared.Row.{Row}
 use Rattle.model.specs.Bytes.{get}
 use Rattle.model.specs.Image.{schemas, rowPlace, rowAt}
-use Rattle.quick.specs.Pass.{Start, Joins}
-use Rattle.quick.specs.Seen.{Follows, Early, Slotted, Timed, Sized, Slab, Here}
+use Rattle.quick.specs.declared.Shared.{Shared}
+use Rattle.quick.specs.declared.Step.{Step}
+use Rattle.quick.specs.declared.Step.the-variants as S
+use Rattle.quick.specs.Pass.{Start}
+use Rattle.quick.specs.Seen.{Known, IfGood, Begun, Followed, Joined, Early, Ends, Slotted, Timed, Slab, Here}
 use Rattle.model.specs.Layout.{slabLength, columnAt, columnBehind, stampsBehind, directory}
 
-pub length-is : (n m : ℕ) → 64 + 4 * m + 8 * (n * (m + 1)) ≡ slabLength n m
+pub length-is : (n m : ℕ) → n * (8 * m + 8) + (4 * m + 64) ≡ slabLength n m
 unfolding slabLength columnAt columnBehind stampsBehind directory
-length-is n m = rw (add-one m, mul-suc n m) (omega (arith, mul-assoc 8 n m))
+length-is n m = omega (arith, mul-add n (8 * m) 8, mul-assoc n 8 m, mul-assoc 8 n m, mul-comm n 8, mul-suc n m)
 
 -- a product that cannot wrap
 pub product-low : (n d : ℕ) → 0 < n → n < 134_217_728 → (d / 4_294_967_296) * n < 536_870_912 → n * d + d < 2 ^ 63
@@ -36,7 +39,7 @@ unfolding rowAt rowPlace
 tier-low e = e .tier-low
 
 pub start-is : (s : List ℕ) (i k : ℕ) {w f m : ℕ} → (w ≡ get 4 s (32 + 64 * i) + 4_294_967_296 * get 4 s (32 + 64 * i + 4)) × (get 4 s (32 + 64 * i) < 4_294_967_296) → w ≡ k → k < 4_294_967_296
-    → f ≡ get 4 s (32 + 64 * i + 24) → f ≡ 0 → m ≡ get 4 s (32 + 64 * i + 28) → 0 < m → Start k (rowAt s i)
+    → f ≡ get 4 s (32 + 64 * i + 24) → f ≡ 0 → m ≡ get 4 s (32 + 64 * i + 28) → m ≢ 0 → Start k (rowAt s i)
 unfolding rowAt rowPlace
 start-is s i k p e l f n m g = record {
   schema-is = omega (arith, p .0, p .1, e, l);
@@ -45,32 +48,80 @@ start-is s i k p e l f n m g = record {
   some-series = omega (arith, m, g);
 }
 
--- the schema after row i's
-pub next-start : (s : List ℕ) (i : ℕ) {g : ℕ} → g ≡ get 4 s (32 + 64 * i) → Start (g + 1) (rowAt s (i + 1)) → Joins (rowAt s i) (rowAt s (i + 1))
+-- what a first row shares
+pub known-start : (s : List ℕ) (i k : ℕ) (p : Shared) → Start k (rowAt s i) → p .series ≡ get 4 s (32 + 64 * i + 28) → p .series < 4_294_967_296 → p .high ≡ 4_294_967_296 * p .series
+    → p .hash ≡ get 8 s (32 + 64 * i + 56) → Begun s i k p
 unfolding rowAt rowPlace
-next-start s i {g} e h = let k : g + 1 ≡ suc (get 4 s (32 + 64 * i)) = omega (arith, e) in inr (rw k at h)
+known-start s i k p st m l e h = record { start = st; known = record { series-is = m; high-is = e; hash-is = h; series-low = l; function-low = omega (arith, st .no-function) } }
+
+-- a field of row i + 1, from row i on
+next : (w : ℕ) (s : List ℕ) (i a b : ℕ) → a ≡ b + 64 → get w s (32 + 64 * i + a) ≡ get w s (32 + 64 * (i + 1) + b)
+next w s i a b e = let q : 32 + 64 * i + a ≡ 32 + 64 * (i + 1) + b = omega (arith, e) in ap (get w s) q
+
+-- the row after row i shares the same
+pub followed-is : (s : List ℕ) (i : ℕ) (p : Shared) {x f h d e : ℕ} → Known s i p
+    → (x ≡ get 4 s (32 + 64 * i + 88) + 4_294_967_296 * get 4 s (32 + 64 * i + 88 + 4)) × (get 4 s (32 + 64 * i + 88) < 4_294_967_296) → (f + p .high) % 2 ^ 64 ≡ x → f ≤ 6
+    → h ≡ get 8 s (32 + 64 * i + 120) → h ≡ p .hash → d ≡ get 8 s (32 + 64 * i + 8) → e ≡ get 8 s (32 + 64 * i + 72) → d < e → Followed s i p
+unfolding rowAt rowPlace
+followed-is s i p {x} {f} k a w l h g d e r =
+    let whole : f + p .high < 2 ^ 64 = omega (arith, k .high-is, k .series-low, l) in
+    let sum : f + p .high ≡ x = sym (mod-eq-of-lt whole) ∙ w in
+    let four : 32 + 64 * i + 88 + 4 ≡ 32 + 64 * i + 92 = omega arith in
+    let function-is : get 4 s (32 + 64 * (i + 1) + 24) ≡ f = sym (next 4 s i 88 24 refl) ∙ omega (arith, a .0, a .1, sum, k .high-is, l) in
+    let series-is : get 4 s (32 + 64 * (i + 1) + 28) ≡ p .series = sym (next 4 s i 92 28 refl) ∙ ap (get 4 s) (sym four) ∙ omega (arith, a .0, a .1, sum, k .high-is, l) in
+    let hash-is : get 8 s (32 + 64 * (i + 1) + 56) ≡ p .hash = sym (next 8 s i 120 56 refl) ∙ sym h ∙ g in
+    record {
+      series-is = series-is ∙ k .series-is;
+      hash-is = hash-is ∙ k .hash-is;
+      longer = omega (arith, d, e, r, next 8 s i 72 8 refl);
+      known = record { series-is = sym series-is; high-is = k .high-is; hash-is = sym hash-is; series-low = k .series-low; function-low = omega (arith, function-is, l) };
+    }
+
+-- the schema after row i's
+pub next-start : (s : List ℕ) (i : ℕ) {g : ℕ} {q : Shared} → g ≡ get 4 s (32 + 64 * i) → Begun s (i + 1) (g + 1) q → Joined s i q
+unfolding rowAt rowPlace
+next-start s i {g} e h =
+    let k : g + 1 ≡ suc (get 4 s (32 + 64 * i)) = omega (arith, e) in
+    record { joins = inr (rw k at (h .start)); known = h .known }
 
 -- the tier after row i's
-pub next-tier : (s : List ℕ) (i : ℕ) {w x : ℕ} {p q : Row} → (w ≡ get 4 s (32 + 64 * i) + 4_294_967_296 * get 4 s (32 + 64 * i + 4)) × (get 4 s (32 + 64 * i) < 4_294_967_296)
-    → (x ≡ get 4 s (32 + 64 * i + 64) + 4_294_967_296 * get 4 s (32 + 64 * i + 64 + 4)) × (get 4 s (32 + 64 * i + 64) < 4_294_967_296) → x ≡ w + 4_294_967_296 → p ≡ rowAt s i
-    → q ≡ rowAt s (i + 1) → Follows p q → Joins (rowAt s i) (rowAt s (i + 1))
+pub next-tier : (s : List ℕ) (i : ℕ) {w x : ℕ} {q : Shared} → (w ≡ get 4 s (32 + 64 * i) + 4_294_967_296 * get 4 s (32 + 64 * i + 4)) × (get 4 s (32 + 64 * i) < 4_294_967_296)
+    → (x ≡ get 4 s (32 + 64 * i + 64) + 4_294_967_296 * get 4 s (32 + 64 * i + 64 + 4)) × (get 4 s (32 + 64 * i + 64) < 4_294_967_296) → x ≡ w + 4_294_967_296 → Followed s i q → Joined s i q
 unfolding rowAt rowPlace
-next-tier s i {w} {x} a b e p q f =
+next-tier s i {w} {x} a b e f =
     let n : 32 + 64 * i + 64 ≡ 32 + 64 * (i + 1) = omega arith in
     let b′ : (x ≡ get 4 s (32 + 64 * (i + 1)) + 4_294_967_296 * get 4 s (32 + 64 * (i + 1) + 4)) × (get 4 s (32 + 64 * (i + 1)) < 4_294_967_296) = rw n at b in
-    let f′ : Follows (rowAt s i) (rowAt s (i + 1)) = rw (p, q) at f in
-    inl (record {
-      schema-is = omega (arith, a .0, a .1, b′ .0, b′ .1, e);
-      tier-is = omega (arith, a .0, a .1, b′ .0, b′ .1, e);
-      series-is = f′ .series-is;
-      hash-is = f′ .hash-is;
-      longer = f′ .longer;
-    })
+    record {
+      joins = inl (record {
+        schema-is = omega (arith, a .0, a .1, b′ .0, b′ .1, e);
+        tier-is = omega (arith, a .0, a .1, b′ .0, b′ .1, e);
+        series-is = f .series-is;
+        hash-is = f .hash-is;
+        longer = f .longer;
+      });
+      known = f .known;
+    }
+
+-- by the step's case
+pub stepped-start : (s : List ℕ) (i g : ℕ) (x : Step) → g ≡ get 4 s (32 + 64 * i) → IfGood (Begun s (i + 1) (g + 1)) x → IfGood (Joined s i) x
+stepped-start s i g (S.Good q) e h = next-start s i e h
+stepped-start s i g (S.Bad) e h = h
+
+pub stepped-tier : (s : List ℕ) (i w x : ℕ) (y : Step) → (w ≡ get 4 s (32 + 64 * i) + 4_294_967_296 * get 4 s (32 + 64 * i + 4)) × (get 4 s (32 + 64 * i) < 4_294_967_296)
+    → (x ≡ get 4 s (32 + 64 * i + 64) + 4_294_967_296 * get 4 s (32 + 64 * i + 64 + 4)) × (get 4 s (32 + 64 * i + 64) < 4_294_967_296) → x ≡ w + 4_294_967_296
+    → IfGood (Followed s i) y → IfGood (Joined s i) y
+stepped-tier s i w x (S.Good q) a b e h = next-tier s i a b e h
+stepped-tier s i w x (S.Bad) a b e h = h
 
 -- the last row's schema, by its word
-pub ends-is : (s : List ℕ) (i : ℕ) {g l : ℕ} → g ≡ get 4 s 8 → l ≡ get 4 s (32 + 64 * i) → g ≡ l + 1 → schemas s ≡ rowAt s i .schema + 1
+pub ends-is : (s : List ℕ) (i : ℕ) {g l : ℕ} → g ≡ get 4 s 8 → g ≤ 8 → l ≡ get 4 s (32 + 64 * i) → g ≡ l + 1 → Ends s i
 unfolding schemas rowAt rowPlace
-ends-is s i a b e = omega (arith, a, b, e)
+ends-is s i a f b e = record { few-schemas = omega (arith, a, f); last-is = omega (arith, a, b, e) }
+
+-- the length that row i says
+pub len-is : (s : List ℕ) (i : ℕ) {x : ℕ} → x ≡ get 8 s (72 + 64 * i) → x ≡ rowAt s i .len
+unfolding rowAt rowPlace
+len-is s i e = let q : 72 + 64 * i ≡ 32 + 64 * i + 40 = omega arith in e ∙ ap (get 8 s) q
 
 -- ---- slabs
 
@@ -81,24 +132,34 @@ slotted-is n d r {x} low e l =
     let sum : x + n * d ≡ r = sym (mod-eq-of-lt whole) ∙ e in
     record { held = omega (arith, sum); rest = omega (arith, sum, l); low = low }
 
--- fewer than 2^27 cells: fewer slots
-pub sized-few : (m n : ℕ) → n * (m + 1) < 134_217_728 → n < 134_217_728
-sized-few m n h = let up : 1 * n ≤ (m + 1) * n = mul-le-mul-right n (omega arith) in omega (arith, up, mul-comm n (m + 1))
-
-pub sized-is : (s : List ℕ) (at : ℕ) (r : Row) (n : ℕ) → 0 < n → n * (r .series + 1) < 134_217_728 → r .len ≡ 64 + 4 * r .series + 8 * (n * (r .series + 1)) → Timed s at r n → Sized s at r n
-sized-is s at r n some few e t =
-    let one : 1 ≤ n = omega arith in
-    let all : 1 * (r .series + 1) ≤ n * (r .series + 1) = mul-le-mul-right (r .series + 1) one in
+-- a slab by its words
+pub slab-is : (s : List ℕ) (at : ℕ) (r : Row) (m h : ℕ) {w y n c g : ℕ} → m < 4_294_967_296 → (w ≡ get 4 s at + 4_294_967_296 * get 4 s (at + 4)) × (get 4 s at < 4_294_967_296) → w ≡ 0x1_4f44_4e52
+    → g ≡ get 8 s (at + 8) → g ≡ h → (y ≡ get 4 s (at + 16) + 4_294_967_296 * get 4 s (at + 16 + 4)) × (get 4 s (at + 16) < 4_294_967_296) → (n + 4_294_967_296 * m) % 2 ^ 64 ≡ y → n < 134_217_728
+    → c ≡ get 4 s (at + 32) → c < n → r .len ≡ n * (8 * m + 8) + (4 * m + 64) → Timed s at r n → Slab s at r m h
+slab-is s at r m h {w} {y} {n} few a named g hash b e l c low len t =
+    let whole : n + 4_294_967_296 * m < 2 ^ 64 = omega arith in
+    let sum : n + 4_294_967_296 * m ≡ y = sym (mod-eq-of-lt whole) ∙ e in
+    let four : at + 16 + 4 ≡ at + 20 = omega arith in
+    let slots-is : n ≡ get 4 s (at + 16) = omega (arith, b .0, b .1, sum) in
+    let series-is : get 4 s (at + 16 + 4) ≡ m = omega (arith, b .0, b .1, sum) in
+    let up : n * (8 * m + 8) ≤ 134_217_728 * (8 * m + 8) = mul-le-mul-right (8 * m + 8) (omega arith) in
     record {
-      length-is = e ∙ length-is n (r .series);
-      few-slots = sized-few (r .series) n few;
-      head-in = omega (arith, e);
-      small = omega (arith, e, all);
-      timed = t;
+      magic-is = omega (arith, a .0, a .1, named);
+      version-is = omega (arith, a .0, a .1, named);
+      hash-is = sym g ∙ hash;
+      series-is = rw four at series-is;
+      few-slots = omega (arith, slots-is);
+      cursor-low = omega (arith, slots-is, c, low);
+      length-is = rw (← slots-is) (len ∙ length-is n m);
+      head-in = omega (arith, len);
+      small = omega (arith, len, up);
+      timed = rw (← slots-is) t;
     }
 
-pub sized-at : (s : List ℕ) (at : ℕ) {n : ℕ} {r : Row} → n ≡ get 4 s (at + 16) → Sized s at r n → Sized s at r (get 4 s (at + 16))
-sized-at s at e h = rw (← e) h
-
-pub here-is : (s : List ℕ) (i at : ℕ) {r : Row} → r ≡ rowAt s i → r .offset ≡ at → r .function ≤ 6 → r .mark < 2 ^ 63 → Slab s at r → Here s i at
-here-is s i at e o f m h = record { function-low = rw (← e) f; mark-low = rw (← e) m; offset-is = rw (← e) o; slab = rw (← e) h }
+pub here-is : (s : List ℕ) (i at : ℕ) (p : Shared) {r : Row} → Known s i p → r ≡ rowAt s i → r .offset ≡ at → r .mark < 2 ^ 63 → Slab s at r (p .series) (p .hash) → Here s i at
+here-is s i at p {r} k e o m h = record {
+  function-low = k .function-low;
+  mark-low = rw (← e) m;
+  offset-is = rw (← e) o;
+  slab = rw (k .series-is, k .hash-is, e) at h;
+}

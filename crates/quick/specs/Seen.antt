@@ -16,29 +16,68 @@ use Rattle.model.specs.Ring.{slots, series, interval, cursor}
 use Rattle.laws.specs.Bytes.{get-part, get-suc}
 use Rattle.frame.specs.Checks.{Suits}
 use Rattle.frame.specs.Good.{slabStart, start-suc}
+use Rattle.quick.specs.declared.Shared.{Shared}
+use Rattle.quick.specs.declared.Step.{Step}
+use Rattle.quick.specs.declared.Step.the-variants as S
 use Rattle.quick.specs.Pass.{RowGood, Joins, Start, Pass, opens}
 
 pub record Head (s : List ℕ) : Type 0 where
   pub long : 96 ≤ length s
   pub magic-is : get 4 s 0 ≡ 0x4f545352
   pub version-is : get 4 s 4 ≡ 1
-  pub few-schemas : schemas s ≤ 8
   pub zero-is : get 8 s 24 ≡ 0
   pub some-rows : 0 < rowCount s
   pub few-rows : rowCount s ≤ 32
   pub head-low : 96 + 64 * rowCount s ≤ totalLength s
+  pub total-low : totalLength s ≤ 2 ^ 40
   pub fits : totalLength s ≤ length s
 
--- q has what the rows of p's schema share, and a longer interval
-pub record Follows (p q : Row) : Type 0 where
-  pub series-is : q .series ≡ p .series
-  pub hash-is : q .hash ≡ p .hash
-  pub longer : p .interval < q .interval
+-- ---- rows
+
+-- p is what row i shares with the rows of its schema
+pub record Known (s : List ℕ) (i : ℕ) (p : Shared) : Type 0 where
+  pub series-is : p .series ≡ rowAt s i .series
+  pub high-is : p .high ≡ 4_294_967_296 * p .series
+  pub hash-is : p .hash ≡ rowAt s i .hash
+  pub series-low : p .series < 4_294_967_296
+  pub function-low : rowAt s i .function ≤ 6
+
+-- what a step that is good promises
+abbrev pub IfGood : (Shared → Type 0) → Step → Type 0
+IfGood P (S.Good q) = P q
+IfGood P (S.Bad) = Unit {0}
+
+pub good-is : (P : Shared → Type 0) {x : Step} {q : Shared} → x ≡ S.Good q → IfGood P x → P q
+good-is P e h = rw e at h
+
+-- row i is the first of schema k
+pub record Begun (s : List ℕ) (i k : ℕ) (p : Shared) : Type 0 where
+  pub start : Start k (rowAt s i)
+  pub known : Known s i p
+
+-- row i + 1 has what row i shares, and a longer interval
+pub record Followed (s : List ℕ) (i : ℕ) (q : Shared) : Type 0 where
+  pub series-is : rowAt s (i + 1) .series ≡ rowAt s i .series
+  pub hash-is : rowAt s (i + 1) .hash ≡ rowAt s i .hash
+  pub longer : rowAt s i .interval < rowAt s (i + 1) .interval
+  pub known : Known s (i + 1) q
+
+-- row i + 1 joins row i
+pub record Joined (s : List ℕ) (i : ℕ) (q : Shared) : Type 0 where
+  pub joins : Joins (rowAt s i) (rowAt s (i + 1))
+  pub known : Known s (i + 1) q
 
 -- schema and tier of row i are no greater than i
 pub record Early (s : List ℕ) (i : ℕ) : Type 0 where
   pub schema-low : rowAt s i .schema ≤ i
   pub tier-low : rowAt s i .tier ≤ i
+
+-- row i is of the last schema
+pub record Ends (s : List ℕ) (i : ℕ) : Type 0 where
+  pub few-schemas : schemas s ≤ 8
+  pub last-is : schemas s ≡ rowAt s i .schema + 1
+
+-- ---- slabs
 
 -- n slots of interval d are what retention r has, and all are far below 2^63
 pub record Slotted (n d r : ℕ) : Type 0 where
@@ -51,29 +90,25 @@ pub record Timed (s : List ℕ) (at : ℕ) (r : Row) (n : ℕ) : Type 0 where
   pub interval-is : get 8 s (at + 24) ≡ r .interval
   pub slotted : Slotted n (r .interval) (r .retention)
 
--- and with n slots it is as long as the row says, which is not great
-pub record Sized (s : List ℕ) (at : ℕ) (r : Row) (n : ℕ) : Type 0 where
-  pub length-is : r .len ≡ slabLength n (r .series)
-  pub few-slots : n < 134_217_728
-  pub head-in : 64 ≤ r .len
-  pub small : r .len < 2 ^ 31
-  pub timed : Timed s at r n
-
--- and its header is the row's
-pub record Slab (s : List ℕ) (at : ℕ) (r : Row) : Type 0 where
+-- the slab at `at` of s is that of row r, which has m series and the hash h
+pub record Slab (s : List ℕ) (at : ℕ) (r : Row) (m h : ℕ) : Type 0 where
   pub magic-is : get 4 s at ≡ 0x4f444e52
   pub version-is : get 4 s (at + 4) ≡ 1
-  pub hash-is : get 8 s (at + 8) ≡ r .hash
-  pub series-is : get 4 s (at + 20) ≡ r .series
+  pub hash-is : get 8 s (at + 8) ≡ h
+  pub series-is : get 4 s (at + 20) ≡ m
+  pub few-slots : get 4 s (at + 16) < 134_217_728
   pub cursor-low : get 4 s (at + 32) < get 4 s (at + 16)
-  pub sized : Sized s at r (get 4 s (at + 16))
+  pub length-is : r .len ≡ slabLength (get 4 s (at + 16)) m
+  pub head-in : 64 ≤ r .len
+  pub small : r .len < 2 ^ 63
+  pub timed : Timed s at r (get 4 s (at + 16))
 
 -- row i, with its slab at `at`
 pub record Here (s : List ℕ) (i at : ℕ) : Type 0 where
   pub function-low : rowAt s i .function ≤ 6
   pub mark-low : rowAt s i .mark < 2 ^ 63
   pub offset-is : rowAt s i .offset ≡ at
-  pub slab : Slab s at (rowAt s i)
+  pub slab : Slab s at (rowAt s i) (rowAt s i .series) (rowAt s i .hash)
 
 -- eight bytes are two numbers side by side
 pub get-pair : (s : List ℕ) (o : ℕ) → o + 4 ≤ length s → get 8 s o ≡ get 4 s o + 4_294_967_296 * get 4 s (o + 4)
@@ -130,21 +165,17 @@ joined-all s n i st j e l = record {
 -- the first n rows' slabs, which end at e
 pub record Placed (s : List ℕ) (n e : ℕ) : Type 0 where
   pub end-is : e ≡ slabStart s n
-  pub end-low : e ≤ 32 + 64 * rowCount s + 2_147_483_648 * n
   pub good : (i : ℕ) → i < n → RowGood s i
 
 pub placed-none : (s : List ℕ) → Placed s 0 (32 + 64 * rowCount s)
-placed-none s = record { end-is = unfold rowPlace slabsEnd rowsFrom in refl; end-low = omega arith; good = λ i h. absurd (omega arith) }
+placed-none s = record { end-is = unfold rowPlace slabsEnd rowsFrom in refl; good = λ i h. absurd (omega arith) }
 
 module _ (s : List ℕ) (i at : ℕ) (p : Placed s i at) (h : Here s i at) where
-  slab : Slab s at (rowAt s i)
+  slab : Slab s at (rowAt s i) (rowAt s i .series) (rowAt s i .hash)
   slab = h .slab
 
-  sized : Sized s at (rowAt s i) (get 4 s (at + 16))
-  sized = h .slab .sized
-
   slotted : Slotted (get 4 s (at + 16)) (rowAt s i .interval) (rowAt s i .retention)
-  slotted = h .slab .sized .timed .slotted
+  slotted = h .slab .timed .slotted
 
   slots-are : rowSlots (rowAt s i) ≡ get 4 s (at + 16)
   unfolding rowSlots slotCount
@@ -154,7 +185,7 @@ module _ (s : List ℕ) (i at : ℕ) (p : Placed s i at) (h : Here s i at) where
   unfolding slabOf slots series interval cursor
   suits =
       let r = rowAt s i in
-      let k = sized .head-in in
+      let k = slab .head-in in
       let word : (w q : ℕ) → q + w ≤ 64 → get w (part s (r .offset) (r .len)) q ≡ get w s (at + q) = λ w q l. get-part w s (r .offset) (r .len) q (omega arith) ∙ ap (λ (x : ℕ). get w s (x + q)) (h .offset-is) in
       let z : at + 0 ≡ at = omega arith in
       record {
@@ -163,13 +194,13 @@ module _ (s : List ℕ) (i at : ℕ) (p : Placed s i at) (h : Here s i at) where
         hash-is = word 8 8 (omega arith) ∙ slab .hash-is;
         slots-is = word 4 16 (omega arith) ∙ sym slots-are;
         series-is = word 4 20 (omega arith) ∙ slab .series-is;
-        interval-is = word 8 24 (omega arith) ∙ sized .timed .interval-is;
+        interval-is = word 8 24 (omega arith) ∙ slab .timed .interval-is;
         cursor-low = rw (word 4 32 (omega arith), slots-are) (slab .cursor-low);
       }
 
   length-is : rowAt s i .len ≡ rowLength (rowAt s i)
   unfolding rowLength
-  length-is = sized .length-is ∙ rw slots-are
+  length-is = slab .length-is ∙ rw slots-are
 
   some-slot : rowAt s i .interval ≤ get 4 s (at + 16) * rowAt s i .interval
   some-slot = let one : 1 ≤ get 4 s (at + 16) = omega (arith, slab .cursor-low) in omega (arith, mul-le-mul-right (rowAt s i .interval) one)
@@ -182,7 +213,7 @@ module _ (s : List ℕ) (i at : ℕ) (p : Placed s i at) (h : Here s i at) where
         interval-low = omega (arith, a .low);
         retention-low = omega (arith, a .rest, a .low);
         kept = omega (arith, some-slot, a .held);
-        few-slots = rw slots-are (omega (arith, sized .few-slots));
+        few-slots = rw slots-are (omega (arith, slab .few-slots));
         function-low = h .function-low;
         mark-low = h .mark-low;
         offset-is = h .offset-is ∙ p .end-is;
@@ -196,7 +227,6 @@ module _ (s : List ℕ) (i at : ℕ) (p : Placed s i at) (h : Here s i at) where
       let e : i + 1 ≡ suc i = omega arith in
       rw e (record {
         end-is = rw (p .end-is, length-is) (sym (start-suc s i));
-        end-low = omega (arith, p .end-low, sized .small);
         good = λ j l. go j l (ℕ-discrete j i);
       })
     where
@@ -206,25 +236,34 @@ module _ (s : List ℕ) (i at : ℕ) (p : Placed s i at) (h : Here s i at) where
 
 -- ---- all parts
 
-pub all-good : (s : List ℕ) (n : ℕ) → Head s → n ≡ rowCount s → JoinedUpTo s n → Placed s n (totalLength s) → openCheck s ≡ 0
-all-good s zero h c j p = absurd (omega (arith, h .some-rows))
-all-good s (suc n) h c j p = opens s n (record {
+pub record All (s : List ℕ) (n e : ℕ) : Type 0 where
+  pub joined : JoinedUpTo s n
+  pub few-schemas : schemas s ≤ 8
+  pub placed : Placed s n e
+
+-- with the last row i
+pub all-are : (s : List ℕ) (n i e : ℕ) → Start 0 (rowAt s 0) → JoinsTo s i → i + 1 ≡ n → Ends s i → Placed s (i + 1) e → All s n e
+all-are s n i e st j k l p = record { joined = joined-all s n i st j k (l .last-is); few-schemas = l .few-schemas; placed = rw k at p }
+
+pub all-good : (s : List ℕ) (n : ℕ) → Head s → n ≡ rowCount s → All s n (totalLength s) → openCheck s ≡ 0
+all-good s zero h c a = absurd (omega (arith, h .some-rows))
+all-good s (suc n) h c a = opens s n (record {
   long = omega (arith, h .long);
   magic-is = h .magic-is;
   version-is = h .version-is;
-  few-schemas = h .few-schemas;
+  few-schemas = a .few-schemas;
   count-is = sym c;
   few-rows = h .few-rows;
   zero-is = h .zero-is;
   head-fits = unfold rowPlace in (omega (arith, h .head-low, h .fits));
-  starts = j .starts;
-  joins = λ i l. j .joins i (omega arith);
-  ends = j .ends n refl;
-  good = λ i l. p .good i (omega arith);
+  starts = a .joined .starts;
+  joins = λ i l. a .joined .joins i (omega arith);
+  ends = a .joined .ends n refl;
+  good = λ i l. a .placed .good i (omega arith);
   total-is = total;
-  total-low = omega (arith, total, c, h .few-rows, p .end-low);
+  total-low = omega (arith, total, h .total-low);
   fits = omega (arith, total, h .fits);
 })
   where
     total : totalLength s ≡ imageLength s
-    total = p .end-is ∙ unfold imageLength rows in (rw (← c))
+    total = a .placed .end-is ∙ unfold imageLength rows in (rw (← c))

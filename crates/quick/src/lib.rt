@@ -1,14 +1,14 @@
 // A quick pass over header, rows and slab headers that only says "all good": then opening's check passes. Where it does not say so, the plain check in document
-// 01's order decides. So it may leave rare shapes to the plain check: a slab of 2^27 cells or more, and a tier that holds 73 years or more. Below that no
-// product can wrap, and no row is divided. Two fields that stand side by side are read as one word (`pair`).
+// 01's order decides. So it may leave rare shapes to the plain check: a slab of 2^27 slots or more, and a tier that holds 73 years or more. Below that no
+// product can wrap, and no row is divided. Two fields that stand side by side are read as one word (`pair`), and what the rows of a schema share is carried
+// from row to row (`Shared`).
 ghost use mathlib.Core.Path.{_≡_};
 ghost use mathlib.Core.Bool.{true};
 ghost use Prim.Native.Nat.{_+_, _*_, _<_, _≤_};
 ghost use lib.ListN.{length};
 ghost use Rattle.model.specs.Bytes.{get};
 ghost use Rattle.model.specs.Image.{rowCount, rowAt, openCheck};
-ghost use Rattle.quick.specs.Pass.{Joins, Start};
-ghost use Rattle.quick.specs.Seen.{Head, Follows, Slotted, Timed, Sized, Slab, Here, Early, JoinedUpTo, Placed};
+ghost use Rattle.quick.specs.Seen.{Head, Known, IfGood, Begun, Followed, Joined, Slotted, Timed, Slab, Here, Early, Ends, All};
 
 // Two u32 that stand side by side, as one number: the second counts 2^32. One load; the first is read by itself for its bound alone.
 fn pair(s: &[u8], at: usize) -> u64
@@ -30,9 +30,6 @@ fn head_good(s: &[u8]) -> bool
     if named != 0x1_4f54_5352 {
         return false;
     }
-    if field::get_u32(s, 8) > 8 {
-        return false;
-    }
     let n = field::get_u32(s, 12);
     if n == 0 {
         return false;
@@ -44,56 +41,87 @@ fn head_good(s: &[u8]) -> bool
     if total > (s.len() as u64) {
         return false;
     }
+    if total > 0x100_0000_0000 {
+        return false;
+    }
     if field::get_u64(s, 24) != 0 {
         return false;
     }
     total >= 96 + 64 * n
 }
 
+// What the rows of a schema share: their series, the same times 2^32, and their hash.
+pub struct Shared {
+    series: u64,
+    high: u64,
+    hash: u64,
+}
+
+// A row may stand where it does, and this is what it shares; or it may not.
+pub enum Step {
+    Good(Shared),
+    Bad,
+}
+
 // Row i is the first of schema k.
-fn starts(s: &[u8], i: usize, k: u64) -> bool
+fn starts(s: &[u8], i: usize, k: u64) -> Step
     requires { ⌜ (32 + 64 * i + 64 ≤ length (now s)) × (k < 4294967296) ⌝ }
-    ensures { λ b. ⌜ (b ≡ true → Start k (rowAt (now (s .entry)) i)) ⌝ }
+    ensures { λ r. ⌜ IfGood (Begun (now (s .entry)) i k) r ⌝ }
 {
     let at = 32 + 64 * i;
     let w = pair(s, at);
     if w != k {
-        return false;
+        return Step::Bad;
     }
     if field::get_u32(s, at + 24) != 0 {
-        return false;
+        return Step::Bad;
     }
-    field::get_u32(s, at + 28) > 0
+    let m = field::get_u32(s, at + 28);
+    if m == 0 {
+        return Step::Bad;
+    }
+    let hash = field::get_u64(s, at + 56);
+    let p = Shared {
+        series: m,
+        high: 0x1_0000_0000 * m,
+        hash: hash,
+    };
+    Step::Good(p)
 }
 
-// q has what the rows of p's schema share, and a longer interval.
-fn follows(p: model::Row, q: model::Row) -> bool
-    ensures { λ b. ⌜ (b ≡ true → Follows p q) ⌝ }
+// Row i + 1 shares what row i shares, and has a longer interval.
+fn follows(s: &[u8], i: usize, p: Shared) -> Step
+    requires { ⌜ (32 + 64 * i + 128 ≤ length (now s)) × Known (now s) i p ⌝ }
+    ensures { λ r. ⌜ IfGood (Followed (now (s .entry)) i) r ⌝ }
 {
-    if q.series != p.series {
-        return false;
+    let at = 32 + 64 * i;
+    let x = pair(s, at + 88);
+    let function = std::num::wrapping_sub_u64(x, p.high);
+    if function > 6 {
+        return Step::Bad;
     }
-    if q.hash != p.hash {
-        return false;
+    if field::get_u64(s, at + 120) != p.hash {
+        return Step::Bad;
     }
-    p.interval < q.interval
+    if field::get_u64(s, at + 8) >= field::get_u64(s, at + 72) {
+        return Step::Bad;
+    }
+    Step::Good(p)
 }
 
 // Row i + 1 may stand right after row i: as the next tier, or as the first row of the next schema.
-fn joins(s: &[u8], i: usize) -> bool
-    requires { ⌜ (32 + 64 * i + 128 ≤ length (now s)) × (i ≤ 32) × Early (now s) i ⌝ }
-    ensures { λ b. ⌜ (b ≡ true → Joins (rowAt (now (s .entry)) i) (rowAt (now (s .entry)) (i + 1))) ⌝ }
+fn joins(s: &[u8], i: usize, p: Shared) -> Step
+    requires { ⌜ (32 + 64 * i + 128 ≤ length (now s)) × (i ≤ 32) × Early (now s) i × Known (now s) i p ⌝ }
+    ensures { λ r. ⌜ IfGood (Joined (now (s .entry)) i) r ⌝ }
 {
     let at = 32 + 64 * i;
     let w = pair(s, at);
     let x = pair(s, at + 64);
-    if x != w + 0x1_0000_0000 {
-        let k = field::get_u32(s, at) + 1;
-        return starts(s, i + 1, k);
+    if x == w + 0x1_0000_0000 {
+        return follows(s, i, p);
     }
-    let p = rows::row_at(s, i);
-    let q = rows::row_at(s, i + 1);
-    follows(p, q)
+    let k = field::get_u32(s, at) + 1;
+    starts(s, i + 1, k)
 }
 
 // n slots of an interval are what a retention has, and hold less than 73 years.
@@ -120,108 +148,92 @@ fn timed_good(s: &[u8], at: usize, r: model::Row, n: u64) -> bool
     slots_good(n, interval, r.retention)
 }
 
-// The slab at `at`, with n slots, is as long as a row says, and has fewer than 2^27 cells.
-fn sized_good(s: &[u8], at: usize, r: model::Row, n: u64) -> bool
-    requires { ⌜ (at + 64 ≤ length (now s)) × (0 < n) × (n < 4294967296) ⌝ }
-    ensures { λ b. ⌜ (b ≡ true → Sized (now (s .entry)) at r n) ⌝ }
-{
-    let m = r.series as u64;
-    let cells = n * (m + 1);
-    if cells >= 0x800_0000 {
-        return false;
-    }
-    if r.len != 64 + 4 * m + 8 * cells {
-        return false;
-    }
-    timed_good(s, at, r, n)
-}
-
-// The slab at `at` is a row's.
-fn slab_good(s: &[u8], at: usize, r: model::Row) -> bool
-    requires { ⌜ at + 64 ≤ length (now s) ⌝ }
-    ensures { λ b. ⌜ (b ≡ true → Slab (now (s .entry)) at r) ⌝ }
+// The slab at `at` is a row's, which shares p.
+fn slab_good(s: &[u8], at: usize, r: model::Row, p: Shared) -> bool
+    requires { ⌜ (at + 64 ≤ length (now s)) × (p .series < 4294967296) × (p .high ≡ 4294967296 * p .series) ⌝ }
+    ensures { λ b. ⌜ (b ≡ true → Slab (now (s .entry)) at r (p .series) (p .hash)) ⌝ }
 {
     let named = pair(s, at);
     if named != 0x1_4f44_4e52 {
         return false;
     }
-    if field::get_u64(s, at + 8) != r.hash {
+    if field::get_u64(s, at + 8) != p.hash {
         return false;
     }
-    if field::get_u32(s, at + 20) != (r.series as u64) {
+    let y = pair(s, at + 16);
+    let n = std::num::wrapping_sub_u64(y, p.high);
+    if n >= 0x800_0000 {
         return false;
     }
-    let n = field::get_u32(s, at + 16);
     if field::get_u32(s, at + 32) >= n {
         return false;
     }
-    sized_good(s, at, r, n)
+    if r.len != n * (8 * p.series + 8) + (4 * p.series + 64) {
+        return false;
+    }
+    timed_good(s, at, r, n)
 }
 
-// Row i, whose slab stands at `at`; `last` is the last place where a slab's header fits.
-fn place_good(s: &[u8], i: usize, at: usize, last: usize) -> bool
-    requires { ⌜ 32 + 64 * i + 64 ≤ length (now s) ⌝ }
-    requires { ⌜ last + 64 ≤ length (now s) ⌝ }
-    ensures { λ b. ⌜ (b ≡ true → (at ≤ last) × Here (now (s .entry)) i at) ⌝ }
+// Row i, which shares p, and whose slab stands at `at`.
+fn place_good(s: &[u8], i: usize, at: usize, p: Shared) -> bool
+    requires { ⌜ (32 + 64 * i + 64 ≤ length (now s)) × (at + 64 ≤ length (now s)) × Known (now s) i p ⌝ }
+    ensures { λ b. ⌜ (b ≡ true → Here (now (s .entry)) i at) ⌝ }
 {
-    if at > last {
-        return false;
-    }
     let r = rows::row_at(s, i);
     if r.offset != (at as u64) {
-        return false;
-    }
-    if r.function > 6 {
         return false;
     }
     if r.mark >= 0x8000_0000_0000_0000 {
         return false;
     }
-    slab_good(s, at, r)
+    slab_good(s, at, r, p)
 }
 
-// The n rows each join the row before, from schema 0 to the last.
-fn rows_join(s: &[u8], n: usize) -> bool
-    requires { ⌜ (0 < n) × (n ≤ 32) × (32 + 64 * n ≤ length (now s)) ⌝ }
-    ensures { λ b. ⌜ (b ≡ true → JoinedUpTo (now (s .entry)) n) ⌝ }
+// The last row, i, is of the last schema.
+fn ends(s: &[u8], i: usize) -> bool
+    requires { ⌜ 32 + 64 * i + 64 ≤ length (now s) ⌝ }
+    ensures { λ b. ⌜ (b ≡ true → Ends (now (s .entry)) i) ⌝ }
 {
-    let started = starts(s, 0, 0);
-    if started {
-        let mut i = 0;
-        while i + 1 < n {
-            let joined = joins(s, i);
-            if joined {
-                i += 1;
-                continue;
-            }
-            return false;
-        }
-        let last = field::get_u32(s, 32 + 64 * i);
-        let schemas = field::get_u32(s, 8);
-        return schemas == last + 1;
-    }
-    false
-}
-
-// The n rows' slabs stand one behind the other, up to `total`.
-fn slabs_good(s: &[u8], n: usize, total: usize) -> bool
-    requires { ⌜ (n ≤ 32) × (n ≡ rowCount (now s)) × (96 ≤ total) × (32 + 64 * n ≤ length (now s)) × (total ≤ length (now s)) ⌝ }
-    ensures { λ b. ⌜ (b ≡ true → Placed (now (s .entry)) n total) ⌝ }
-{
-    let last = total - 64;
-    let mut at = 32 + 64 * n;
-    let mut i = 0;
-    while i < n {
-        let here = place_good(s, i, at, last);
-        if here {
-            let r = rows::row_at(s, i);
-            at += r.len as usize;
-            i += 1;
-            continue;
-        }
+    let schemas = field::get_u32(s, 8);
+    if schemas > 8 {
         return false;
     }
-    at == total
+    let last = field::get_u32(s, 32 + 64 * i);
+    schemas == last + 1
+}
+
+// The n rows each join the row before, from schema 0 to the last, and their slabs stand one behind the other, up to `total`.
+fn rows_good(s: &[u8], n: usize, total: usize) -> bool
+    requires { ⌜ (0 < n) × (n ≤ 32) × (n ≡ rowCount (now s)) × (96 + 64 * n ≤ total) × (total ≤ length (now s)) × (total ≤ 1099511627776) ⌝ }
+    ensures { λ b. ⌜ (b ≡ true → All (now (s .entry)) n total) ⌝ }
+{
+    let last = total - 64;
+    let first = starts(s, 0, 0);
+    let Step::Good(begin) = first else {
+        return false;
+    };
+    let mut p = begin;
+    let mut at = 32 + 64 * n;
+    let mut i = 0;
+    let mut here = place_good(s, 0, at, p);
+    while here {
+        at += field::get_u64(s, 72 + 64 * i) as usize;
+        if i + 1 == n {
+            let ended = ends(s, i);
+            return ended & (at == total);
+        }
+        if at > last {
+            return false;
+        }
+        let next = joins(s, i, p);
+        let Step::Good(q) = next else {
+            return false;
+        };
+        p = q;
+        i += 1;
+        here = place_good(s, i, at, p);
+    }
+    false
 }
 
 // All good: opening's check passes.
@@ -232,10 +244,7 @@ pub fn is_good(s: &[u8]) -> bool
     if headed {
         let n = field::get_u32(s, 12) as usize;
         let total = field::get_u64(s, 16) as usize;
-        let joined = rows_join(s, n);
-        if joined {
-            return slabs_good(s, n, total);
-        }
+        return rows_good(s, n, total);
     }
     false
 }

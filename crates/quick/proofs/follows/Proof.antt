@@ -1,19 +1,73 @@
--- `quick::follows` meets its contract: the tests that were passed are the facts. Assumes nothing.
+-- `quick::follows` meets its contract: series and function by one word. Assumes nothing.
 use mathlib.Core.Bool.{false≢true}
 use native.Mathlib.Omega.{arith}
-use Rattle.laws.specs.Tests.{lt-is}
+use mathlib.Core.Path.{_≡_, refl, sym, _∙_}
+use Rattle.quick.proofs.Laws.{followed-is}
 use borrow.Author.Needs.{needs}
 use Rattle.quick.proofs.follows.Statement.{statement}
 use Rattle.quick.proofs.follows.Tie as tie
 
+mul-at : tie.Need-mul-at
+mul-at c = search needs
+
+add-at : tie.Need-add-at
+add-at c = search needs
+
+add-pair : tie.Need-add-pair
+add-pair c = search needs
+
+pair-requires : tie.Need-pair-requires
+pair-requires c κs = search needs
+
+wrapping-sub-u64-requires : tie.Need-wrapping-sub-u64-requires
+wrapping-sub-u64-requires c κs = search needs
+
 returns : tie.Need-returns
-returns c = λ e. absurd (false≢true e)
+returns c = tt
+
+add-get-u64 : tie.Need-add-get-u64
+add-get-u64 c = search needs
+
+get-u64-requires : tie.Need-get-u64-requires
+get-u64-requires c κs = search needs
 
 returns-2 : tie.Need-returns-2
-returns-2 c = λ e. absurd (false≢true e)
+returns-2 c = tt
+
+add-get-u64-2 : tie.Need-add-get-u64-2
+add-get-u64-2 c = search needs
+
+get-u64-requires-2 : tie.Need-get-u64-requires-2
+get-u64-requires-2 c κs = search needs
+
+add-get-u64-3 : tie.Need-add-get-u64-3
+add-get-u64-3 c = search needs
+
+get-u64-requires-3 : tie.Need-get-u64-requires-3
+get-u64-requires-3 c κs = search needs
 
 returns-3 : tie.Need-returns-3
-returns-3 c = λ e. record { series-is = c .before .before .before .before .before .if1 .left; hash-is = c .before .before .if2 .left; longer = lt-is (c .before .before .before .before .before .before .before .before .args .p .interval) (c .before .before .before .before .before .before .before .before .args .q .interval) e }
+returns-3 c = tt
+
+returns-4 : tie.Need-returns-4
+returns-4 c = followed-is (c .before .before .before .before .before .before .before .before .before .before .args .s .now) (c .before .before .before .before .before .before .before .before .before .before .args .i) (c .before .before .before .before .before .before .before .before .before .before .args .p) (c .before .before .before .before .before .before .before .before .before .before .pre .1) (c .before .before .before .before .before .before .before .before .pair .ensures) (c .before .before .before .before .before .before .before .wrapping-sub-u64 .ensures) (c .before .before .before .before .before .before .if1 .left) (c .before .before .before .before .before .get-u64 .ensures) (c .before .before .before .if2 .left) (c .before .before .get-u642 .ensures) (c .before .get-u643 .ensures) (c .if3 .left)
 
 pub follows-spec : {M : Type 1} → statement M
-follows-spec = tie.close (tie.spec returns returns-2 returns-3)
+follows-spec =
+    tie.close
+    (tie.spec
+    mul-at
+    add-at
+    add-pair
+    pair-requires
+    wrapping-sub-u64-requires
+    returns
+    add-get-u64
+    get-u64-requires
+    returns-2
+    add-get-u64-2
+    get-u64-requires-2
+    add-get-u64-3
+    get-u64-requires-3
+    returns-3
+    returns-4)

@@ -3,7 +3,7 @@ use native.Mathlib.Omega.{arith}
 use mathlib.Core.Path.{_≡_, subst}
 use mathlib.Core.Bool.{false≢true}
 use Rattle.model.specs.Image.{rowCount, totalLength}
-use Rattle.quick.specs.Seen.{Placed, all-good}
+use Rattle.quick.specs.Seen.{All, all-good}
 use borrow.Author.Needs.{needs}
 use Rattle.quick.proofs.is_good.Statement.{statement}
 use Rattle.quick.proofs.is_good.Tie as tie
@@ -17,40 +17,19 @@ get-u32-requires c κs = omega (arith, c .before .head-good .ensures (c .if1 .ta
 get-u64-requires : tie.Need-get-u64-requires
 get-u64-requires c κs = omega (arith, c .before .before .head-good .ensures (c .before .if1 .taken) .long)
 
-rows-join-requires : tie.Need-rows-join-requires
+rows-good-requires : tie.Need-rows-good-requires
 unfolding rowCount totalLength
-rows-join-requires c κs =
+rows-good-requires c κs =
     let h = c .before .before .before .head-good .ensures (c .before .before .if1 .taken) in
-    (omega (arith, h .some-rows), omega (arith, h .few-rows), omega (arith, h .head-low, h .fits))
-
-slabs-good-requires : tie.Need-slabs-good-requires
-unfolding rowCount totalLength
-slabs-good-requires c κs =
-    let h = c .before .before .before .before .before .head-good .ensures (c .before .before .before .before .if1 .taken) in
-    (omega (arith, h .few-rows), c .before .before .before .get-u32 .ensures .0, omega (arith, h .head-low, h .some-rows), omega (arith, h .head-low, h .fits), omega (arith, h .fits))
+    (omega (arith, h .some-rows), omega (arith, h .few-rows), c .before .get-u32 .ensures .0, omega (arith, h .head-low), omega (arith, h .fits), omega (arith, h .total-low))
 
 returns : tie.Need-returns
 unfolding rowCount totalLength
 returns c =
-    let start = c .before .before .before .before .before .before .before .before in
-    λ e. all-good (start .args .s .now) (c .before .before .before .before .get-u32 .result) (c .before .before .before .before .before .before .head-good .ensures (c .before .before .before .before .before .if1 .taken)) (c .before .before .before .before .get-u32 .ensures .0) (c .before .before .rows-join .ensures (c .before .if2 .taken))
-    (subst (Placed (start .args .s .now) (c .before .before .before .before .get-u32 .result)) (c .before .before .before .get-u64 .ensures) (c .slabs-good .ensures e))
+    λ e. all-good (c .before .before .before .before .before .before .args .s .now) (c .before .before .get-u32 .result) (c .before .before .before .before .head-good .ensures (c .before .before .before .if1 .taken)) (c .before .before .get-u32 .ensures .0) (subst (All (c .before .before .before .before .before .before .args .s .now) (c .before .before .get-u32 .result)) (c .before .get-u64 .ensures) (c .rows-good .ensures e))
 
 returns-2 : tie.Need-returns-2
 returns-2 c = λ e. absurd (false≢true e)
 
-returns-3 : tie.Need-returns-3
-returns-3 c = λ e. absurd (false≢true e)
-
 pub is-good-spec : {M : Type 1} → statement M
-is-good-spec =
-    tie.close
-    (tie.spec
-    head-good-requires
-    get-u32-requires
-    get-u64-requires
-    rows-join-requires
-    slabs-good-requires
-    returns
-    returns-2
-    returns-3)
+is-good-spec = tie.close (tie.spec head-good-requires get-u32-requires get-u64-requires rows-good-requires returns returns-2)

@@ -1,7 +1,6 @@
 -- `quick::joins` meets its contract: the next tier by its word, or the first row of the next schema. Assumes nothing.
-use mathlib.Core.Bool.{false≢true}
 use native.Mathlib.Omega.{arith}
-use Rattle.quick.proofs.Laws.{schema-low, tier-low, next-start, next-tier}
+use Rattle.quick.proofs.Laws.{schema-low, tier-low, stepped-start, stepped-tier}
 use borrow.Author.Needs.{needs}
 use Rattle.quick.proofs.joins.Statement.{statement}
 use Rattle.quick.proofs.joins.Tie as tie
@@ -24,6 +23,12 @@ pair-requires-2 c κs = search needs
 add-if1 : tie.Need-add-if1
 add-if1 c = omega (arith, c .before .pair .ensures .0, schema-low (c .before .before .before .pre .2), tier-low (c .before .before .before .pre .2), c .before .before .before .pre .1)
 
+follows-requires : tie.Need-follows-requires
+follows-requires c κs = (c .before .before .before .before .pre .0, c .before .before .before .before .pre .3)
+
+returns : tie.Need-returns
+returns c = stepped-tier (c .before .before .before .before .before .args .s .now) (c .before .before .before .before .before .args .i) (c .before .before .before .pair .result) (c .before .before .pair2 .result) (c .follows .result) (c .before .before .before .pair .ensures) (c .before .before .pair2 .ensures) (c .before .if1 .taken) (c .follows .ensures)
+
 get-u32-requires : tie.Need-get-u32-requires
 get-u32-requires c κs = search needs
 
@@ -36,23 +41,8 @@ add-starts c = search needs
 starts-requires : tie.Need-starts-requires
 starts-requires c κs = (omega (arith, c .before .before .before .before .before .pre .0), omega (arith, c .get-u32 .ensures .0, schema-low (c .before .before .before .before .before .pre .2), c .before .before .before .before .before .pre .1))
 
-returns : tie.Need-returns
-returns c = λ e. next-start (c .before .before .before .before .before .before .args .s .now) (c .before .before .before .before .before .before .args .i) (c .before .get-u32 .ensures .0) (c .starts .ensures e)
-
-row-at-requires : tie.Need-row-at-requires
-row-at-requires c κs = search needs
-
-add-row-at : tie.Need-add-row-at
-add-row-at c = search needs
-
-row-at-requires-2 : tie.Need-row-at-requires-2
-row-at-requires-2 c κs = search needs
-
-follows-requires : tie.Need-follows-requires
-follows-requires c κs = search needs
-
 returns-2 : tie.Need-returns-2
-returns-2 c = λ e. next-tier (c .before .before .before .before .before .before .before .args .s .now) (c .before .before .before .before .before .before .before .args .i) (c .before .before .before .before .before .pair .ensures) (c .before .before .before .before .pair2 .ensures) (c .before .before .before .if1 .left) (c .before .before .row-at .ensures) (c .before .row-at2 .ensures) (c .follows .ensures e)
+returns-2 c = stepped-start (c .before .before .before .before .before .before .args .s .now) (c .before .before .before .before .before .before .args .i) (c .before .get-u32 .result) (c .starts .result) (c .before .get-u32 .ensures .0) (c .starts .ensures)
 
 pub joins-spec : {M : Type 1} → statement M
 joins-spec =
@@ -64,13 +54,10 @@ joins-spec =
     add-pair
     pair-requires-2
     add-if1
+    follows-requires
+    returns
     get-u32-requires
     add-k
     add-starts
     starts-requires
-    returns
-    row-at-requires
-    add-row-at
-    row-at-requires-2
-    follows-requires
     returns-2)

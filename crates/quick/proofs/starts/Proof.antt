@@ -1,8 +1,9 @@
 -- `quick::starts` meets its contract: the tests that were passed are the facts. Assumes nothing.
 use mathlib.Core.Bool.{false≢true}
 use native.Mathlib.Omega.{arith}
-use Rattle.laws.specs.Tests.{lt-is}
-use Rattle.quick.proofs.Laws.{start-is}
+use mathlib.Core.Path.{_≡_, refl, sym, _∙_}
+use mathlib.Core.Logic.{_≢_}
+use Rattle.quick.proofs.Laws.{start-is, known-start}
 use borrow.Author.Needs.{needs}
 use Rattle.quick.proofs.starts.Statement.{statement}
 use Rattle.quick.proofs.starts.Tie as tie
@@ -17,7 +18,7 @@ pair-requires : tie.Need-pair-requires
 pair-requires c κs = search needs
 
 returns : tie.Need-returns
-returns c = λ e. absurd (false≢true e)
+returns c = tt
 
 add-get-u32 : tie.Need-add-get-u32
 add-get-u32 c = search needs
@@ -26,7 +27,7 @@ get-u32-requires : tie.Need-get-u32-requires
 get-u32-requires c κs = search needs
 
 returns-2 : tie.Need-returns-2
-returns-2 c = λ e. absurd (false≢true e)
+returns-2 c = tt
 
 add-get-u32-2 : tie.Need-add-get-u32-2
 add-get-u32-2 c = search needs
@@ -35,7 +36,19 @@ get-u32-requires-2 : tie.Need-get-u32-requires-2
 get-u32-requires-2 c κs = search needs
 
 returns-3 : tie.Need-returns-3
-returns-3 c = λ e. start-is (c .before .before .before .before .before .before .args .s .now) (c .before .before .before .before .before .before .args .i) (c .before .before .before .before .before .before .args .k) (c .before .before .before .before .pair .ensures) (c .before .before .before .if1 .left) (c .before .before .before .before .before .before .pre .1) (c .before .before .get-u32 .ensures .0) (c .before .if2 .left) (c .get-u322 .ensures .0) (lt-is 0 (c .get-u322 .result) e)
+returns-3 c = tt
+
+add-get-u64 : tie.Need-add-get-u64
+add-get-u64 c = search needs
+
+get-u64-requires : tie.Need-get-u64-requires
+get-u64-requires c κs = search needs
+
+mul-t11 : tie.Need-mul-t11
+mul-t11 c = search needs
+
+returns-4 : tie.Need-returns-4
+returns-4 c = known-start (c .before .before .before .before .before .before .before .before .args .s .now) (c .before .before .before .before .before .before .before .before .args .i) (c .before .before .before .before .before .before .before .before .args .k) _ (start-is (c .before .before .before .before .before .before .before .before .args .s .now) (c .before .before .before .before .before .before .before .before .args .i) (c .before .before .before .before .before .before .before .before .args .k) (c .before .before .before .before .before .before .pair .ensures) (c .before .before .before .before .before .if1 .left) (c .before .before .before .before .before .before .before .before .pre .1) (c .before .before .before .before .get-u32 .ensures .0) (c .before .before .before .if2 .left) (c .before .before .get-u322 .ensures .0) (c .before .if3 .left)) (c .before .before .get-u322 .ensures .0) (c .before .before .get-u322 .ensures .1) refl (c .get-u64 .ensures)
 
 pub starts-spec : {M : Type 1} → statement M
 starts-spec =
@@ -50,4 +63,8 @@ starts-spec =
     returns-2
     add-get-u32-2
     get-u32-requires-2
-    returns-3)
+    returns-3
+    add-get-u64
+    get-u64-requires
+    mul-t11
+    returns-4)
