@@ -111,7 +111,7 @@ fn measures() -> Vec<Measure> {
     };
     let record = |name, plan| {
         let turn = |side: &mut dyn Side, i: u64| side.record((i % 2) as u32, i as f64, at(i / 2));
-        base(name, 200_000, 2000, plan, Box::new(turn))
+        base(name, 1_000_000, 2000, plan, Box::new(turn))
     };
     let batch = |name, turns, series: u32| Measure {
         setup: Box::new(move |s| s.entries(series)),
