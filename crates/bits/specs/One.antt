@@ -1,14 +1,14 @@
--- One flag of a number of flags: set by adding its bit, where it is not set yet. Assumes nothing.
-use Prim.Native.Nat.{ℕ, zero, suc, _+_, _*_, _/_, _%_, _^_, _≤_, _<_}
+-- One flag of a number of flags: set by `|` with its bit. Assumes nothing.
+use Prim.Native.Nat.{ℕ, zero, suc, _+_, _*_, _/_, _%_, _^_, _≤_, _<_, max}
 use native.Mathlib.Omega.{arith}
-use native.Mathlib.Nat.{one-mul, pow-zero, pow-succ', pow-le-pow-right, mod-eq-of-lt, add-mul-div-left, add-mul-mod-self-left}
+use native.Mathlib.Nat.{one-mul, pow-zero, pow-succ', pow-le-pow-right, mod-eq-of-lt, max-comm, max-eq-left, max-zero}
 use mathlib.Core.Path.{_≡_, refl, sym, ap, _∙_}
 use mathlib.Core.Bool.{Bool, true, false}
 use mathlib.Core.List.{List, _∷_}
 use lib.ListN.{getD, set}
 use lib.Seq.{set-getD}
 use lib.Dec.{eqb}
-use borrow.Author.Tests.{eqb-false, eq-eqb}
+use lib.Bits.{bitOr, or-step, or-zero-r}
 use Rattle.model.specs.Lent.{Lent}
 use Rattle.bits.specs.Bits.{bits}
 
@@ -16,27 +16,22 @@ use Rattle.bits.specs.Bits.{bits}
 abbrev pub lentAt : List ℕ → ℕ → Lent
 lentAt s x = record { image = s; flags = bits 32 x }
 
-even : (x : ℕ) → eqb (x % 2) 1 ≡ false → x % 2 ≡ 0
-even x h = let n = eqb-false (x % 2) 1 h in omega arith
-
--- its bit is added
-pub bit-added : (k x i : ℕ) → i < k → getD (bits k x) i false ≡ false → bits k (x + 2 ^ i) ≡ set (bits k x) i true
+-- a bit set by `|`, whether it was set or not
+pub bit-set : (k x i : ℕ) → i < k → bits k (bitOr x (2 ^ i)) ≡ set (bits k x) i true
 unfolding bits
-bit-added (suc k) x zero l h =
-    let e = even x h in
-    let odd : (x + 1) % 2 ≡ 1 = omega arith in
-    let half : (x + 1) / 2 ≡ x / 2 = omega arith in
+bit-set (suc k) x zero l =
+    let one : max (x % 2) 1 ≡ 1 = max-comm (x % 2) 1 ∙ max-eq-left (omega arith) in
+    let v : bitOr x 1 ≡ x / 2 * 2 + 1 = omega (arith, or-step x 1, or-zero-r (x / 2), one) in
+    let odd : bitOr x 1 % 2 ≡ 1 = omega (arith, v) in
+    let half : bitOr x 1 / 2 ≡ x / 2 = omega (arith, v) in
     rw (pow-zero, odd, half)
-bit-added (suc k) x (suc i) l h =
-    let two : 0 < 2 = omega arith in
-    rw (pow-succ', add-mul-mod-self-left x 2 (2 ^ i), add-mul-div-left x (2 ^ i) two, bit-added k (x / 2) i (omega arith) h)
-
--- and fits
-pub added-fits : (k x i : ℕ) → i < k → x < 2 ^ k → getD (bits k x) i false ≡ false → x + 2 ^ i < 2 ^ k
-unfolding bits
-added-fits (suc k) x zero l f h = omega (arith, even x h, pow-zero 2, pow-succ' 2 k)
-added-fits (suc k) x (suc i) l f h =
-    omega (arith, added-fits k (x / 2) i (omega arith) (omega (arith, pow-succ' 2 k)) h, pow-succ' 2 k, pow-succ' 2 i)
+bit-set (suc k) x (suc i) l =
+    let half : 2 * 2 ^ i / 2 ≡ 2 ^ i = omega arith in
+    let even : 2 * 2 ^ i % 2 ≡ 0 = omega arith in
+    let v : bitOr x (2 * 2 ^ i) ≡ bitOr (x / 2) (2 ^ i) * 2 + x % 2 = rw (half, even, max-zero) at (or-step x (2 * 2 ^ i)) in
+    let low : bitOr x (2 * 2 ^ i) % 2 ≡ x % 2 = omega (arith, v) in
+    let high : bitOr x (2 * 2 ^ i) / 2 ≡ bitOr (x / 2) (2 ^ i) = omega (arith, v) in
+    rw (pow-succ', low, high, bit-set k (x / 2) i (omega arith))
 
 -- a bit below 32, shifted up in 32 bits
 pub shifted : (i : ℕ) → i < 32 → 1 * 2 ^ i % 4294967296 ≡ 2 ^ i

@@ -67,12 +67,8 @@ pub fn with_flag(number: u32, row: usize, flag: bool) -> u32
     requires { ⌜ (row < 32) × (getD (bits 32 number) row false ≡ true → flag ≡ true) ⌝ }
     ensures { λ r. ⌜ bits 32 r ≡ set (bits 32 number) row flag ⌝ }
 {
-    let old = flag_at(number, row);
     if flag {
-        if old {
-            return number;
-        }
-        return number + (1 << row);
+        return number | (1 << row);
     }
     number
 }
