@@ -1,7 +1,6 @@
 -- What the quick pass works out: a slab's length, slots by a product, schema and tier by words. Assumes nothing.
 use Prim.Native.Nat.{ℕ, suc, _+_, _*_, _/_, _%_, _^_, _≤_, _<_}
 use native.Mathlib.Nat.{mul-add, mul-suc, mul-assoc, mul-comm, mul-le-mul-right, mod-eq-of-lt}
-use native.Mathlib.Numerals.{add-one}
 use native.Mathlib.Omega.{arith}
 use mathlib.Core.Path.{_≡_, refl, sym, ap, _∙_}
 use mathlib.Core.Logic.{_≢_, _⊎_, inl, inr}
@@ -13,7 +12,7 @@ use Rattle.quick.specs.declared.Shared.{Shared}
 use Rattle.quick.specs.declared.Step.{Step}
 use Rattle.quick.specs.declared.Step.the-variants as S
 use Rattle.quick.specs.Pass.{Start}
-use Rattle.quick.specs.Seen.{Known, IfGood, Begun, Followed, Joined, Early, Ends, Slotted, Timed, Slab, Here}
+use Rattle.quick.specs.Seen.{PairAt, Known, IfGood, Begun, Followed, Joined, Early, Ends, Slotted, Timed, Slab, Here}
 use Rattle.model.specs.Layout.{slabLength, columnAt, columnBehind, stampsBehind, directory}
 
 pub length-is : (n m : ℕ) → n * (8 * m + 8) + (4 * m + 64) ≡ slabLength n m
@@ -38,7 +37,7 @@ pub tier-low : {s : List ℕ} {i : ℕ} → Early s i → get 4 s (32 + 64 * i +
 unfolding rowAt rowPlace
 tier-low e = e .tier-low
 
-pub start-is : (s : List ℕ) (i k : ℕ) {w f m : ℕ} → (w ≡ get 4 s (32 + 64 * i) + 4_294_967_296 * get 4 s (32 + 64 * i + 4)) × (get 4 s (32 + 64 * i) < 4_294_967_296) → w ≡ k → k < 4_294_967_296
+pub start-is : (s : List ℕ) (i k : ℕ) {w f m : ℕ} → PairAt s (32 + 64 * i) w → w ≡ k → k < 4_294_967_296
     → f ≡ get 4 s (32 + 64 * i + 24) → f ≡ 0 → m ≡ get 4 s (32 + 64 * i + 28) → m ≢ 0 → Start k (rowAt s i)
 unfolding rowAt rowPlace
 start-is s i k p e l f n m g = record {
@@ -60,7 +59,7 @@ next w s i a b e = let q : 32 + 64 * i + a ≡ 32 + 64 * (i + 1) + b = omega (ar
 
 -- the row after row i shares the same
 pub followed-is : (s : List ℕ) (i : ℕ) (p : Shared) {x f h d e : ℕ} → Known s i p
-    → (x ≡ get 4 s (32 + 64 * i + 88) + 4_294_967_296 * get 4 s (32 + 64 * i + 88 + 4)) × (get 4 s (32 + 64 * i + 88) < 4_294_967_296) → (f + p .high) % 2 ^ 64 ≡ x → f ≤ 6
+    → PairAt s (32 + 64 * i + 88) x → (f + p .high) % 2 ^ 64 ≡ x → f ≤ 6
     → h ≡ get 8 s (32 + 64 * i + 120) → h ≡ p .hash → d ≡ get 8 s (32 + 64 * i + 8) → e ≡ get 8 s (32 + 64 * i + 72) → d < e → Followed s i p
 unfolding rowAt rowPlace
 followed-is s i p {x} {f} k a w l h g d e r =
@@ -85,12 +84,12 @@ next-start s i {g} e h =
     record { joins = inr (rw k at (h .start)); known = h .known }
 
 -- the tier after row i's
-pub next-tier : (s : List ℕ) (i : ℕ) {w x : ℕ} {q : Shared} → (w ≡ get 4 s (32 + 64 * i) + 4_294_967_296 * get 4 s (32 + 64 * i + 4)) × (get 4 s (32 + 64 * i) < 4_294_967_296)
-    → (x ≡ get 4 s (32 + 64 * i + 64) + 4_294_967_296 * get 4 s (32 + 64 * i + 64 + 4)) × (get 4 s (32 + 64 * i + 64) < 4_294_967_296) → x ≡ w + 4_294_967_296 → Followed s i q → Joined s i q
+pub next-tier : (s : List ℕ) (i : ℕ) {w x : ℕ} {q : Shared} → PairAt s (32 + 64 * i) w
+    → PairAt s (32 + 64 * i + 64) x → x ≡ w + 4_294_967_296 → Followed s i q → Joined s i q
 unfolding rowAt rowPlace
 next-tier s i {w} {x} a b e f =
     let n : 32 + 64 * i + 64 ≡ 32 + 64 * (i + 1) = omega arith in
-    let b′ : (x ≡ get 4 s (32 + 64 * (i + 1)) + 4_294_967_296 * get 4 s (32 + 64 * (i + 1) + 4)) × (get 4 s (32 + 64 * (i + 1)) < 4_294_967_296) = rw n at b in
+    let b′ : PairAt s (32 + 64 * (i + 1)) x = rw n at b in
     record {
       joins = inl (record {
         schema-is = omega (arith, a .0, a .1, b′ .0, b′ .1, e);
@@ -107,8 +106,8 @@ pub stepped-start : (s : List ℕ) (i g : ℕ) (x : Step) → g ≡ get 4 s (32 
 stepped-start s i g (S.Good q) e h = next-start s i e h
 stepped-start s i g (S.Bad) e h = h
 
-pub stepped-tier : (s : List ℕ) (i w x : ℕ) (y : Step) → (w ≡ get 4 s (32 + 64 * i) + 4_294_967_296 * get 4 s (32 + 64 * i + 4)) × (get 4 s (32 + 64 * i) < 4_294_967_296)
-    → (x ≡ get 4 s (32 + 64 * i + 64) + 4_294_967_296 * get 4 s (32 + 64 * i + 64 + 4)) × (get 4 s (32 + 64 * i + 64) < 4_294_967_296) → x ≡ w + 4_294_967_296
+pub stepped-tier : (s : List ℕ) (i w x : ℕ) (y : Step) → PairAt s (32 + 64 * i) w
+    → PairAt s (32 + 64 * i + 64) x → x ≡ w + 4_294_967_296
     → IfGood (Followed s i) y → IfGood (Joined s i) y
 stepped-tier s i w x (S.Good q) a b e h = next-tier s i a b e h
 stepped-tier s i w x (S.Bad) a b e h = h
@@ -133,8 +132,8 @@ slotted-is n d r {x} low e l =
     record { held = omega (arith, sum); rest = omega (arith, sum, l); low = low }
 
 -- a slab by its words
-pub slab-is : (s : List ℕ) (at : ℕ) (r : Row) (m h : ℕ) {w y n c g : ℕ} → m < 4_294_967_296 → (w ≡ get 4 s at + 4_294_967_296 * get 4 s (at + 4)) × (get 4 s at < 4_294_967_296) → w ≡ 0x1_4f44_4e52
-    → g ≡ get 8 s (at + 8) → g ≡ h → (y ≡ get 4 s (at + 16) + 4_294_967_296 * get 4 s (at + 16 + 4)) × (get 4 s (at + 16) < 4_294_967_296) → (n + 4_294_967_296 * m) % 2 ^ 64 ≡ y → n < 134_217_728
+pub slab-is : (s : List ℕ) (at : ℕ) (r : Row) (m h : ℕ) {w y n c g : ℕ} → m < 4_294_967_296 → PairAt s at w → w ≡ 0x1_4f44_4e52
+    → g ≡ get 8 s (at + 8) → g ≡ h → PairAt s (at + 16) y → (n + 4_294_967_296 * m) % 2 ^ 64 ≡ y → n < 134_217_728
     → c ≡ get 4 s (at + 32) → c < n → r .len ≡ n * (8 * m + 8) + (4 * m + 64) → Timed s at r n → Slab s at r m h
 slab-is s at r m h {w} {y} {n} few a named g hash b e l c low len t =
     let whole : n + 4_294_967_296 * m < 2 ^ 64 = omega arith in

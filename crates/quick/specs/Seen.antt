@@ -21,6 +21,10 @@ use Rattle.quick.specs.declared.Step.{Step}
 use Rattle.quick.specs.declared.Step.the-variants as S
 use Rattle.quick.specs.Pass.{RowGood, Joins, Start, Pass, opens}
 
+-- w is the two numbers that stand side by side at o
+abbrev pub PairAt : List ℕ → ℕ → ℕ → Type 0
+PairAt s o w = (w ≡ get 4 s o + 4_294_967_296 * get 4 s (o + 4)) × (get 4 s o < 4_294_967_296)
+
 pub record Head (s : List ℕ) : Type 0 where
   pub long : 96 ≤ length s
   pub magic-is : get 4 s 0 ≡ 0x4f545352

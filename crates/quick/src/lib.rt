@@ -6,14 +6,13 @@ ghost use mathlib.Core.Path.{_≡_};
 ghost use mathlib.Core.Bool.{true};
 ghost use Prim.Native.Nat.{_+_, _*_, _<_, _≤_};
 ghost use lib.ListN.{length};
-ghost use Rattle.model.specs.Bytes.{get};
 ghost use Rattle.model.specs.Image.{rowCount, rowAt, openCheck};
-ghost use Rattle.quick.specs.Seen.{Head, Known, IfGood, Begun, Followed, Joined, Slotted, Timed, Slab, Here, Early, Ends, All};
+ghost use Rattle.quick.specs.Seen.{PairAt, Head, Known, IfGood, Begun, Followed, Joined, Slotted, Timed, Slab, Here, Early, Ends, All};
 
 // Two u32 that stand side by side, as one number: the second counts 2^32. One load; the first is read by itself for its bound alone.
 fn pair(s: &[u8], at: usize) -> u64
     requires { ⌜ at + 8 ≤ length (now s) ⌝ }
-    ensures { λ r. ⌜ (r ≡ get 4 (now (s .entry)) at + 4294967296 * get 4 (now (s .entry)) (at + 4)) × (get 4 (now (s .entry)) at < 4294967296) ⌝ }
+    ensures { λ r. ⌜ PairAt (now (s .entry)) at r ⌝ }
 {
     let _low = field::get_u32(s, at);
     field::get_u64(s, at)
