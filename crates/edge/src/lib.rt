@@ -15,16 +15,6 @@ ghost use Rattle.bits.specs.One.{lentAt};
 ghost use Rattle.fetch.specs.Fetch.{words};
 ghost use Rattle.edge.specs.Edge.{doneAs, unlessRefused, replyNo, countOn, endNo, foundWords, queriedNo, queriedWords, queryNo, queryWords, stepAt, placeWords, nextNo, pointWords, fetchAt};
 
-// The number of an answer: 0, or the refusal's.
-fn outcome_number(outcome: model::Outcome) -> u32
-    ensures { λ n. ⌜ n ≡ outcomeNo outcome ⌝ }
-{
-    match outcome {
-        model::Outcome::Accepted => 0,
-        model::Outcome::Refused(r) => model::refusal_number(r),
-    }
-}
-
 // The size of the image that a plan needs. A refused plan leaves `size`.
 #[no_mangle]
 pub extern "C" fn rondo_image_size(plan: &[u8], size: &mut u64) -> u32
@@ -32,7 +22,7 @@ pub extern "C" fn rondo_image_size(plan: &[u8], size: &mut u64) -> u32
 {
     let checked = image::check_plan(plan);
     let model::Outcome::Accepted = checked else {
-        return outcome_number(checked);
+        return model::outcome_number(checked);
     };
     *size = image::length_of(plan);
     0
@@ -49,7 +39,7 @@ pub extern "C" fn rondo_create(plan: &[u8], image: &mut [u8], flags: &mut u32) -
     let created = done.flags;
     *flags = bits::number_of(created);
     let outcome = done.outcome;
-    outcome_number(outcome)
+    model::outcome_number(outcome)
 }
 
 // Checks an image and works out the flags of its rows. Flags past them stay.
@@ -63,7 +53,7 @@ pub extern "C" fn rondo_open(image: &[u8], flags: &mut u32) -> u32
     let opened = done.flags;
     *flags = bits::number_of(opened);
     let outcome = done.outcome;
-    outcome_number(outcome)
+    model::outcome_number(outcome)
 }
 
 // Records one value, given by its 64-bit pattern.
@@ -82,10 +72,11 @@ pub extern "C" fn rondo_record(
         schema: schema,
         column: column,
     };
-    let done = numbered::record(image, *flags, handle, value, stamp);
-    *flags = done.flags;
-    let outcome = done.outcome;
-    outcome_number(outcome)
+    let opened = quick::check(image);
+    if opened != 0 {
+        return opened;
+    }
+    numbered::record(image, flags, handle, value, stamp)
 }
 
 // Records a batch of values at one stamp: 16 bytes an entry, schema u32, column u32, value u64.
@@ -98,10 +89,14 @@ pub extern "C" fn rondo_record_batch(
 ) -> u32
     ensures { λ r. ⌜ doneAs r (lentAt (now (image .exit)) (now (flags .exit))) ≡ call (lentAt (now (image .entry)) (now (flags .entry))) (batchCall (entries (now (batch .entry))) stamp) ⌝ }
 {
-    let done = batch::record_numbered(image, *flags, batch, stamp);
+    let opened = quick::check(image);
+    if opened != 0 {
+        return opened;
+    }
+    let done = batch::batch_opened(image, *flags, batch, stamp);
     *flags = done.flags;
     let outcome = done.outcome;
-    outcome_number(outcome)
+    model::outcome_number(outcome)
 }
 
 // An end's stamp; 0 where it is missing.

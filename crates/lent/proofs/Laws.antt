@@ -34,6 +34,9 @@ module _ (s : List ℕ) (h : openCheck s ≡ 0) where
   pub few-rows : rowCount s ≤ 32
   few-rows = g .shape-is .few-rows
 
+  pub some-row : 0 < rowCount s
+  some-row = omega (arith, first-there s h 0 (g .shape-is .some-schemas))
+
   pub row-in-slice : (i : ℕ) → i < rowCount s → 32 + 64 * i + 64 ≤ length s
   row-in-slice i l = let f : 32 + 64 * rowCount s ≤ length s = unfold rowPlace in (g .shape-is .head-fits) in omega arith
 

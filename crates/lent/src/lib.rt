@@ -79,21 +79,27 @@ pub fn first_row(image: &[u8], schema: u64) -> usize
     i
 }
 
-// The row of a handle's finest tier.
+// The row of a handle's finest tier. An image in good order has a row, so the loop asks for the count behind its first turn.
 pub fn finest_row(image: &[u8], schema: u64, column: u64) -> Finest
     requires { ⌜ openCheck (now image) ≡ 0 ⌝ }
     ensures { λ r. ⌜ r ≡ finestOf (now (image .entry)) schema column ⌝ }
 {
     let count = field::get_u32(image, 12) as usize;
-    let row = first_row(image, schema);
-    if row >= count {
-        return Finest::Missing;
+    let mut i = 0;
+    loop {
+        let s = row_u32(image, i, 0);
+        if s == schema {
+            let series = row_u32(image, i, 28);
+            if column >= series {
+                return Finest::Missing;
+            }
+            return Finest::At(i);
+        }
+        i += 1;
+        if i == count {
+            return Finest::Missing;
+        }
     }
-    let series = row_u32(image, row, 28);
-    if column >= series {
-        return Finest::Missing;
-    }
-    Finest::At(row)
 }
 
 // A row's flag.

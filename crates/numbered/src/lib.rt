@@ -1,32 +1,30 @@
-// `record` with the flags as one number, as it crosses the edge to C: one flag is read and one may be set, the others are not looked at.
-ghost use Rattle.model.specs.Words.{outcomeNo};
+// `record` with the flags as one number, as it crosses the edge to C, once opening's check has passed: one flag is read and one may be set, in place, the
+// others are not looked at.
+ghost use mathlib.Core.Path.{_≡_};
+ghost use Rattle.model.specs.Image.{openCheck};
 ghost use Rattle.bits.specs.One.{lentAt};
 ghost use Rattle.record.specs.Done.{RecordDone};
 
-// Records one value.
+// Records one value. Answers 0, or the refusal's number.
 pub fn record(
     image: &mut [u8],
-    flags: u32,
+    flags: &mut u32,
     handle: model::SeriesHandle,
     value: u64,
     stamp: u64,
-) -> bits::Numbered
-    ensures { λ r. ⌜ RecordDone (lentAt (now (image .entry)) flags) (handle .schema) (handle .column) value stamp (outcomeNo (r .outcome)) (lentAt (now (image .exit)) (r .flags)) ⌝ }
+) -> u32
+    requires { ⌜ openCheck (now image) ≡ 0 ⌝ }
+    ensures { λ n. ⌜ RecordDone (lentAt (now (image .entry)) (now (flags .entry))) (handle .schema) (handle .column) value stamp n (lentAt (now (image .exit)) (now (flags .exit))) ⌝ }
 {
-    let found = record::ready(image, handle, value, stamp);
+    let found = record::ready_opened(image, handle, value, stamp);
     match found {
         record::Target::Row(row) => {
-            let wrapped = bits::flag_at(flags, row);
+            let before = *flags;
+            let wrapped = bits::flag_at(before, row);
             let after = record::store(image, row, handle.column as usize, value, stamp, wrapped);
-            let next = bits::with_flag(flags, row, after);
-            bits::Numbered {
-                outcome: model::Outcome::Accepted,
-                flags: next,
-            }
+            *flags = bits::with_flag(before, row, after);
+            0
         }
-        record::Target::Refused(r) => bits::Numbered {
-            outcome: model::Outcome::Refused(r),
-            flags: flags,
-        },
+        record::Target::Refused(r) => model::refusal_number(r),
     }
 }

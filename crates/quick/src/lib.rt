@@ -40,10 +40,10 @@ fn head_good(s: &[u8]) -> bool
     if total > (s.len() as u64) {
         return false;
     }
-    if total > 0x100_0000_0000 {
+    if field::get_u64(s, 24) != 0 {
         return false;
     }
-    if field::get_u64(s, 24) != 0 {
+    if total > 0x100_0000_0000 {
         return false;
     }
     total >= 96 + 64 * n
@@ -246,4 +246,24 @@ pub fn is_good(s: &[u8]) -> bool
         return rows_good(s, n, total);
     }
     false
+}
+
+// What the plain check says, by its number. A function of its own: written out in `check`, the compiler copies the slice there by a load of 16 bytes behind
+// two stores of 8, which stalls every call.
+fn check_plainly(s: &[u8]) -> u32
+    ensures { λ n. ⌜ n ≡ openCheck (now (s .entry)) ⌝ }
+{
+    let opened = image::check_image(s);
+    model::outcome_number(opened)
+}
+
+// The number of opening's check: 0 at once where all is good, else what the plain check says.
+pub fn check(s: &[u8]) -> u32
+    ensures { λ n. ⌜ n ≡ openCheck (now (s .entry)) ⌝ }
+{
+    let good = is_good(s);
+    if good {
+        return 0;
+    }
+    check_plainly(s)
 }

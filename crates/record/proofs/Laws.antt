@@ -10,8 +10,6 @@ use lib.Dec.{leb, ltb}
 use lib.ListN.{length, getD, set}
 use borrow.Rule.Slice.PartMut.{putMid, midOf}
 use Rattle.model.specs.declared.Row.{Row}
-use Rattle.model.specs.declared.Refusal.{Refusal}
-use Rattle.model.specs.Words.{numberOf}
 use Rattle.model.specs.Bytes.{part, splice}
 use Rattle.model.specs.Image.{unless, first, rowAt, slabOf, openCheck}
 use Rattle.model.specs.Ring.{Ring, ColumnValue, flagAfter, write, isInfinite}
@@ -20,7 +18,6 @@ use Rattle.model.specs.Record.{stampOk, recordCheck}
 use Rattle.laws.specs.Tests.{yes-le, yes-lt, no-le, no-lt}
 use Rattle.laws.specs.Bytes.{lent-splice}
 use Rattle.rings.specs.Sound.{Sound}
-use Rattle.rows.specs.First.{refusal-no}
 use Rattle.ring.specs.Parts.{ringOf, one}
 use Rattle.lent.specs.Parts.{SlabAt, finestOf}
 use Rattle.lent.specs.declared.Finest.the-variants.{At, Missing}
@@ -90,10 +87,3 @@ module _ (s : List ℕ) (k c v t : ℕ) (h : openCheck s ≡ 0) where
       where
         accepted : (bs : List Bool) → recordCheck (lentBy s bs) k c v t ≡ 0
         accepted bs = unfold recordCheck first unless in (rw (h, handle-at (lentBy s bs) k c e .0, a, b))
-
-pub not-opened : (s : List ℕ) (k c v t : ℕ) (r : Refusal) → numberOf r ≡ openCheck s → (bs : List Bool) → numberOf r ≡ recordCheck (lentBy s bs) k c v t
-not-opened s k c v t r e bs = go (numberOf r) (refusal-no r) e
-  where
-    go : (n : ℕ) → n ≢ 0 → n ≡ openCheck s → n ≡ recordCheck (lentBy s bs) k c v t
-    go zero z e = absurd (z refl)
-    go (suc n) z e = unfold recordCheck first in (rw (← e))

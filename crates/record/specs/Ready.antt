@@ -10,7 +10,7 @@ use mathlib.Core.List.{List}
 use lib.ListN.{getD, set}
 use Rattle.model.specs.declared.Refusal.{Refusal}
 use Rattle.model.specs.Words.{numberOf}
-use Rattle.model.specs.Image.{openCheck}
+use Rattle.model.specs.Image.{first, openCheck}
 use Rattle.model.specs.Ring.{ColumnValue, write}
 use Rattle.model.specs.Lent.{Lent, ring, withRing, rowNo}
 use Rattle.model.specs.Record.{recordCheck, recordOn, writeTo}
@@ -50,13 +50,18 @@ pub record RowWritten (s u : List ℕ) (i : ℕ) (es : List ColumnValue) (t : �
   pub stays : w ≡ true → b ≡ true
 
 module _ (s : List ℕ) (bs : List Bool) (k c v t : ℕ) where
+  -- opening's refusal is record's
+  pub unopened : (n : ℕ) → n ≢ 0 → n ≡ openCheck s → n ≡ recordCheck (lentBy s bs) k c v t
+  unopened zero z e = absurd (z refl)
+  unopened (suc n) z e = unfold recordCheck first in (rw (← e))
+
   -- a refusal leaves what was lent
+  pub refused-by : (n : ℕ) → n ≢ 0 → n ≡ recordCheck (lentBy s bs) k c v t → RecordDone (lentBy s bs) k c v t n (lentBy s bs)
+  refused-by zero z e = absurd (z refl)
+  refused-by (suc n) z e = record { answer-is = e; lent-is = unfold recordOn in (rw (← e) refl) }
+
   pub refused : (r : Refusal) → Readied s k c v t (R.Refused r) → RecordDone (lentBy s bs) k c v t (numberOf r) (lentBy s bs)
-  refused r e = go (numberOf r) (refusal-no r) (e bs)
-    where
-      go : (n : ℕ) → n ≢ 0 → n ≡ recordCheck (lentBy s bs) k c v t → RecordDone (lentBy s bs) k c v t n (lentBy s bs)
-      go zero z e = absurd (z refl)
-      go (suc n) z e = record { answer-is = e; lent-is = unfold recordOn in (rw (← e) refl) }
+  refused r e = refused-by (numberOf r) (refusal-no r) (e bs)
 
   pub recorded : {u : List ℕ} {i : ℕ} {w b : Bool} → ReadyAt s k c v t i → RowWritten s u i (one c v) t w b → w ≡ getD bs i false
       → RecordDone (lentBy s bs) k c v t 0 (lentBy u (set bs i b))

@@ -63,7 +63,7 @@ pub enum Target {
 }
 
 // Where a value goes, once opening's check has passed: 11, 12, 13, or its row.
-fn ready_opened(image: &[u8], handle: model::SeriesHandle, value: u64, stamp: u64) -> Target
+pub fn ready_opened(image: &[u8], handle: model::SeriesHandle, value: u64, stamp: u64) -> Target
     requires { ⌜ openCheck (now image) ≡ 0 ⌝ }
     ensures { λ r. ⌜ Readied (now (image .entry)) (handle .schema) (handle .column) value stamp r ⌝ }
 {

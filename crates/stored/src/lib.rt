@@ -84,17 +84,9 @@ pub fn is_unlike(item: &[u8], image: &[u8], flags: model::Flags) -> bool {
     is_image_unlike(item, image)
 }
 
-// The number of an answer: 0, or the refusal's.
-fn outcome_number(outcome: model::Outcome) -> u32 {
-    match outcome {
-        model::Outcome::Accepted => 0,
-        model::Outcome::Refused(r) => model::refusal_number(r),
-    }
-}
-
 // The number of an answer is not the stored one.
 pub fn is_other(item: &[u8], outcome: model::Outcome) -> bool {
-    let number = outcome_number(outcome);
+    let number = model::outcome_number(outcome);
     let stored = word(item, 16);
     number as u64 != stored
 }

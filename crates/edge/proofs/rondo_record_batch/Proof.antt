@@ -1,21 +1,45 @@
--- `edge::rondo_record_batch` meets its contract: `batch::record_numbered`, its outcome as a number. Assumes nothing.
+-- `edge::rondo_record_batch` meets its contract: opening's refusal, or what `batch::batch_opened` does, its outcome as a number. Assumes nothing.
+use mathlib.Core.Path.{sym, _∙_}
+use Rattle.model.specs.Record.{entries}
+use Rattle.bits.specs.One.{lentAt}
+use Rattle.batch.proofs.Laws.{not-opened}
 use Rattle.edge.proofs.Laws.{batch-call}
 use borrow.Author.Needs.{needs}
 use Rattle.edge.proofs.rondo_record_batch.Statement.{statement}
 use Rattle.edge.proofs.rondo_record_batch.Tie as tie
 
-record-numbered-requires : tie.Need-record-numbered-requires
-record-numbered-requires c κs = search needs
-
-outcome-number-requires : tie.Need-outcome-number-requires
-outcome-number-requires c κs = search needs
+check-requires : tie.Need-check-requires
+check-requires c κs = search needs
 
 same-length : tie.Need-same-length
 same-length c = search needs
 
 returns : tie.Need-returns
-returns c = rw (c .outcome-number .ensures) (batch-call _ _ _ _ _ (c .before .before .before .record-numbered .ensures))
+returns c =
+    let a = c .before .before .before .before .before .args in
+    let n = c .before .check .result in
+    batch-call _ _ _ _ n (not-opened (lentAt (a .image .now) (a .flags .now)) (a .stamp) (entries (a .batch .now)) n (c .before .check .ensures) (c .if1 .taken))
+
+batch-opened-requires : tie.Need-batch-opened-requires
+batch-opened-requires c κs = sym (c .before .before .before .check .ensures) ∙ c .before .before .if1 .left
+
+outcome-number-requires : tie.Need-outcome-number-requires
+outcome-number-requires c κs = search needs
+
+same-length-2 : tie.Need-same-length-2
+same-length-2 c = search needs
+
+returns-2 : tie.Need-returns-2
+returns-2 c = rw (c .outcome-number .ensures) (batch-call _ _ _ _ _ (c .before .before .before .batch-opened .ensures))
 
 pub rondo-record-batch-spec : {M : Type 1} → statement M
 rondo-record-batch-spec =
-    tie.close (tie.spec record-numbered-requires outcome-number-requires same-length returns)
+    tie.close
+    (tie.spec
+    check-requires
+    same-length
+    returns
+    batch-opened-requires
+    outcome-number-requires
+    same-length-2
+    returns-2)

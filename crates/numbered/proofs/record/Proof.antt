@@ -1,4 +1,4 @@
--- `numbered::record` meets its contract: the refusal that `ready` found, or the write to the row that it found. Assumes nothing.
+-- `numbered::record` meets its contract: the refusal that `ready_opened` found, or the write to the row that it found. Assumes nothing.
 use native.Mathlib.Omega.{arith}
 use mathlib.Core.Path.{sym, _∙_}
 use Rattle.lent.specs.Handle.{row-there}
@@ -9,57 +9,61 @@ use borrow.Author.Needs.{needs}
 use Rattle.numbered.proofs.record.Statement.{statement}
 use Rattle.numbered.proofs.record.Tie as tie
 
-ready-requires : tie.Need-ready-requires
-ready-requires c κs = search needs
+ready-opened-requires : tie.Need-ready-opened-requires
+ready-opened-requires c κs = search needs
 
 enum-known-found : tie.Need-enum-known-found
 enum-known-found c = search needs
 
 flag-at-requires : tie.Need-flag-at-requires
-flag-at-requires c κs = omega (arith, row-ready (c .before .found .given .1) (c .before .before .before .ready .ensures) .few-rows)
+flag-at-requires c κs = omega (arith, row-ready (c .before .before .found .given .1) (c .before .before .before .before .ready-opened .ensures) .few-rows)
 
 cast-store : tie.Need-cast-store
 cast-store c = search needs
 
 store-requires : tie.Need-store-requires
 store-requires c κs =
-    let start = c .before .before .before .before .before .before .before .before .before in
-    let r = row-ready (c .before .before .before .before .found .given .1) (c .before .before .before .before .before .before .ready .ensures) in
-    (r .opened, row-there (lentAt (start .args .image .now) (start .args .flags)) (start .args .handle .schema) (start .args .handle .column) (r .opened) (r .row-is))
+    let a = c .before .before .before .before .before .before .before .before .before .before .args in
+    let r = row-ready (c .before .before .before .before .before .found .given .1) (c .before .before .before .before .before .before .before .ready-opened .ensures) in
+    (r .opened, row-there (lentAt (a .image .now) (a .flags .now)) (a .handle .schema) (a .handle .column) (r .opened) (r .row-is))
 
 with-flag-requires : tie.Need-with-flag-requires
-with-flag-requires c κs = (row-ready (c .before .before .before .before .before .before .before .found .given .1) (c .before .before .before .before .before .before .before .before .before .ready .ensures) .few-rows, λ e. c .before .before .store .ensures .stays (c .before .before .before .before .before .flag-at .ensures ∙ e))
+with-flag-requires c κs = (row-ready (c .before .before .before .before .before .before .before .before .found .given .1) (c .before .before .before .before .before .before .before .before .before .before .ready-opened .ensures) .few-rows, λ e. c .before .before .store .ensures .stays (c .before .before .before .before .before .flag-at .ensures ∙ e))
 
 enum-known-found-2 : tie.Need-enum-known-found-2
 enum-known-found-2 c = search needs
+
+refusal-number-requires : tie.Need-refusal-number-requires
+refusal-number-requires c κs = search needs
 
 same-length : tie.Need-same-length
 same-length c = search needs
 
 returns : tie.Need-returns
 returns c =
-    let start = c .before .before .before .before .before .before .before .before .before .before .before .before .before in
-    rw (c .with-flag .ensures) (recorded (start .args .image .now) (bits 32 (start .args .flags)) (start .args .handle .schema) (start .args .handle .column) (start .args .value) (start .args .stamp) (row-ready (c .before .before .before .before .before .before .before .before .found .given .1) (c .before .before .before .before .before .before .before .before .before .before .ready .ensures)) (c .before .before .before .store .ensures) (c .before .before .before .before .before .before .flag-at .ensures))
+    let a = c .before .before .before .before .before .before .before .before .before .before .before .before .before .before .args in
+    rw (c .with-flag .ensures) (recorded (a .image .now) (bits 32 (a .flags .now)) (a .handle .schema) (a .handle .column) (a .value) (a .stamp) (row-ready (c .before .before .before .before .before .before .before .before .before .found .given .1) (c .before .before .before .before .before .before .before .before .before .before .before .ready-opened .ensures)) (c .before .before .before .store .ensures) (c .before .before .before .before .before .before .flag-at .ensures))
 
 same-length-2 : tie.Need-same-length-2
 same-length-2 c = search needs
 
 returns-2 : tie.Need-returns-2
 returns-2 c =
-    let start = c .before .before .before .before .before .before in
-    refused (start .args .image .now) (bits 32 (start .args .flags)) (start .args .handle .schema) (start .args .handle .column) (start .args .value) (start .args .stamp) (c .before .found2 .given .0 .0) (refusal-ready (start .args .image .now) (start .args .handle .schema) (start .args .handle .column) (start .args .value) (start .args .stamp) (c .before .found2 .given .1) (c .before .before .before .ready .ensures))
+    let a = c .before .before .before .before .before .before .before .args in
+    rw (c .refusal-number .ensures) (refused (a .image .now) (bits 32 (a .flags .now)) (a .handle .schema) (a .handle .column) (a .value) (a .stamp) (c .before .before .found2 .given .0 .0) (refusal-ready (a .image .now) (a .handle .schema) (a .handle .column) (a .value) (a .stamp) (c .before .before .found2 .given .1) (c .before .before .before .before .ready-opened .ensures)))
 
 pub record-spec : {M : Type 1} → statement M
 record-spec =
     tie.close
     (tie.spec
-    ready-requires
+    ready-opened-requires
     enum-known-found
     flag-at-requires
     cast-store
     store-requires
     with-flag-requires
     enum-known-found-2
+    refusal-number-requires
     same-length
     returns
     same-length-2

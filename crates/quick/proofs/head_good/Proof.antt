@@ -33,11 +33,11 @@ get-u64-requires c κs = search needs
 returns-5 : tie.Need-returns-5
 returns-5 c = λ e. absurd (false≢true e)
 
-returns-6 : tie.Need-returns-6
-returns-6 c = λ e. absurd (false≢true e)
-
 get-u64-requires-2 : tie.Need-get-u64-requires-2
 get-u64-requires-2 c κs = search needs
+
+returns-6 : tie.Need-returns-6
+returns-6 c = λ e. absurd (false≢true e)
 
 returns-7 : tie.Need-returns-7
 returns-7 c = λ e. absurd (false≢true e)
@@ -55,11 +55,11 @@ returns-8 c =
       long = c .before .before .before .before .before .before .before .before .before .before .if1 .left;
       magic-is = omega (arith, c .before .before .before .before .before .before .before .before .before .pair .ensures .0, c .before .before .before .before .before .before .before .before .before .pair .ensures .1, c .before .before .before .before .before .before .before .before .if2 .left);
       version-is = omega (arith, c .before .before .before .before .before .before .before .before .before .pair .ensures .0, c .before .before .before .before .before .before .before .before .before .pair .ensures .1, c .before .before .before .before .before .before .before .before .if2 .left);
-      zero-is = sym (c .before .get-u642 .ensures) ∙ c .if7 .left;
+      zero-is = sym (c .before .before .get-u642 .ensures) ∙ c .before .if6 .left;
       some-rows = omega (arith, c .before .before .before .before .before .before .before .get-u32 .ensures .0, c .before .before .before .before .before .before .if3 .left);
       few-rows = omega (arith, c .before .before .before .before .before .before .before .get-u32 .ensures .0, c .before .before .before .before .before .if4 .left);
       head-low = omega (arith, c .before .before .before .before .before .before .before .get-u32 .ensures .0, c .before .before .before .before .get-u64 .ensures, le-is (96 + 64 * c .before .before .before .before .before .before .before .get-u32 .result) (c .before .before .before .before .get-u64 .result) e);
-      total-low = omega (arith, c .before .before .before .before .get-u64 .ensures, c .before .before .if6 .left);
+      total-low = omega (arith, c .before .before .before .before .get-u64 .ensures, c .if7 .left);
       fits = omega (arith, c .before .before .before .before .get-u64 .ensures, c .before .before .before .if5 .left);
     }
 
@@ -75,8 +75,8 @@ head-good-spec =
     returns-4
     get-u64-requires
     returns-5
-    returns-6
     get-u64-requires-2
+    returns-6
     returns-7
     mul-result
     add-result

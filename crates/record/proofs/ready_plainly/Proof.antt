@@ -1,7 +1,8 @@
 -- `record::ready_plainly` meets its contract: opening's refusal, or what `ready_opened` answers. Assumes nothing.
 use mathlib.Core.Path.{_≡_, sym, ap, _∙_}
-use Rattle.model.specs.Words.{outcomeNo}
-use Rattle.record.proofs.Laws.{not-opened}
+use Rattle.model.specs.Words.{numberOf, outcomeNo}
+use Rattle.rows.specs.First.{refusal-no}
+use Rattle.record.specs.Ready.{unopened}
 use borrow.Author.Needs.{needs}
 use Rattle.record.proofs.ready_plainly.Statement.{statement}
 use Rattle.record.proofs.ready_plainly.Tie as tie
@@ -24,7 +25,8 @@ returns c = search needs
 returns-2 : tie.Need-returns-2
 returns-2 c =
     let start = c .before .before .before .before .before in
-    not-opened (start .args .image .now) (start .args .handle .schema) (start .args .handle .column) (start .args .value) (start .args .stamp) (c .before .opened .given .0 .0) (sym (ap outcomeNo (c .before .opened .given .1)) ∙ c .before .before .before .check-image .ensures)
+    let r = c .before .opened .given .0 .0 in
+    λ bs. unopened (start .args .image .now) bs (start .args .handle .schema) (start .args .handle .column) (start .args .value) (start .args .stamp) (numberOf r) (refusal-no r) (sym (ap outcomeNo (c .before .opened .given .1)) ∙ c .before .before .before .check-image .ensures)
 
 pub ready-plainly-spec : {M : Type 1} → statement M
 ready-plainly-spec =
