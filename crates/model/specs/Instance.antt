@@ -1,7 +1,7 @@
 -- The third demand is not empty: a list of calls on three tiers that meets the supposition, with the promised answers, by computation. It stands beside the
 -- definitions, so that an edit of one meets it. Assumes nothing.
-use Prim.Native.Nat.{ℕ, zero, suc, _+_, _*_, _^_}
-use mathlib.Core.Path.{_≡_, refl}
+use Prim.Native.Nat.{ℕ, zero, suc, _+_, _-_, _*_, _^_}
+use mathlib.Core.Path.{_≡_, refl, ap}
 use mathlib.Core.Bool.{Bool, true, false, _&&_}
 use mathlib.Core.List.{List, [], _∷_, _++_, map}
 use lib.ListN.{length, replicate}
@@ -11,9 +11,10 @@ use lib.Ieee.{binary64, toBits, ofInt}
 use Rattle.model.specs.declared.Row.{Row}
 use Rattle.model.specs.declared.Point.{Point}
 use Rattle.model.specs.Image.{rows, createCheck}
+use Rattle.model.specs.Lent.{Lent}
 use Rattle.model.specs.Record.{Entry}
-use Rattle.model.specs.Store.{Call, recordCall, batchCall, queryCall, autoCall, consolidateCall}
-use Rattle.model.specs.Demand.{Demand-defs, Situation, Event, took, ran, samplesIn, suited, supposed, history, newestWindows, each, answers, used, events, afterRun}
+use Rattle.model.specs.Store.{Call, call, after, recordCall, batchCall, queryCall, autoCall, consolidateCall}
+use Rattle.model.specs.Demand.{Demand-defs, Situation, Event, took, ran, samplesIn, suited, supposed, history, newestWindows, each, answers, used, events, created, upToRun, afterRun, handedOut}
 use Rattle.model.specs.Cases.{Cases-defs, tierOf, tier, plan, num, infinity, at}
 
 -- ---- the list
@@ -85,10 +86,6 @@ pub met : T (supposed 10 40 did) × T (used 1 (samplesIn did))
 unfolding Instance-defs sample did
 met = (tt, tt)
 
-pub quiet : events (afterRun (story 1 0)) (story 1 0 .between) ≡ []
-unfolding Instance-defs
-quiet = refl
-
 -- the windows that are due at the three tiers
 pub dues :
     newestWindows 10 10 4 (samplesIn did) ∷ newestWindows 10 20 2 (samplesIn did) ∷ newestWindows 10 40 1 (samplesIn did) ∷ []
@@ -96,23 +93,37 @@ pub dues :
 unfolding Instance-defs sample did
 dues = refl
 
--- the points: 1, 2, 1 and 4; 1.5 and 2.5; 2
-pub points-0 : answers (story 1 0) ≡ at 80 1 ∷ at 90 2 ∷ at 100 1 ∷ at 110 4 ∷ []
-unfolding Instance-defs
-points-0 = refl
+-- the points of column c at tier k over all time
+unfoldable pub points : Lent → ℕ → ℕ → List Point
+points l c k = handedOut (call l (queryCall 0 c k 0 (2 ^ 64 - 1)) .reply)
 
-pub points-1 : answers (story 1 1) ≡ record { stamp = 80; value = 0x3ff8_0000_0000_0000 } ∷ record { stamp = 100; value = 0x4004_0000_0000_0000 } ∷ []
-unfolding Instance-defs
-points-1 = refl
+-- of a store as the run left it: what the calls between do, and the points of column 1 at the three tiers and of column 0 at tier 1
+unfoldable pub comesTo : Lent → List Event × List (List Point)
+comesTo l =
+    let between = story 0 0 .between in
+    let m = after l between in
+    (events l between, points m 1 0 ∷ points m 1 1 ∷ points m 1 2 ∷ points m 0 1 ∷ [])
 
-pub points-2 : answers (story 1 2) ≡ at 80 2 ∷ []
-unfolding Instance-defs
-points-2 = refl
+-- 1, 2, 1 and 4; 1.5 and 2.5; 2; 3.5 and 2
+unfoldable pub numbers : List (List Point)
+numbers =
+    (at 80 1 ∷ at 90 2 ∷ at 100 1 ∷ at 110 4 ∷ [])
+    ∷ (record { stamp = 80; value = 0x3ff8_0000_0000_0000 } ∷ record { stamp = 100; value = 0x4004_0000_0000_0000 } ∷ [])
+    ∷ (at 80 2 ∷ [])
+    ∷ (record { stamp = 80; value = 0x400c_0000_0000_0000 } ∷ at 100 2 ∷ []) ∷ []
 
--- column 0: 3.5 and 2
-pub points-other : answers (story 0 1) ≡ record { stamp = 80; value = 0x400c_0000_0000_0000 } ∷ at 100 2 ∷ []
-unfolding Instance-defs
-points-other = refl
+-- the calls up to the run are computed once for all of this
+pub comes-to : comesTo (afterRun (story 0 0)) ≡ ([], numbers)
+unfolding Instance-defs points comesTo numbers
+comes-to = refl
+
+pub quiet : events (afterRun (story 1 0)) (story 1 0 .between) ≡ []
+unfolding story created upToRun afterRun comesTo
+quiet = ap (λ p. p .0) comes-to
+
+pub points-are : answers (story 1 0) ∷ answers (story 1 1) ∷ answers (story 1 2) ∷ answers (story 0 1) ∷ [] ≡ numbers
+unfolding story created upToRun afterRun answers points comesTo
+points-are = ap (λ p. p .1) comes-to
 
 -- they are as promised
 pub promised :
