@@ -114,7 +114,7 @@ fn record_plainly(image: &mut [u8], flags: u32, batch: &[u8], stamp: u64) -> bit
 }
 
 // Records a batch, with the flags as a number.
-pub fn record_numbered(image: &mut [u8], flags: u32, batch: &[u8], stamp: u64) -> bits::Numbered
+fn record_numbered(image: &mut [u8], flags: u32, batch: &[u8], stamp: u64) -> bits::Numbered
     ensures { λ r. ⌜ BatchDone (lentAt (now (image .entry)) flags) (entries (now (batch .entry))) stamp (outcomeNo (r .outcome)) (lentAt (now (image .exit)) (r .flags)) ⌝ }
 {
     let good = quick::is_good(image);
