@@ -60,7 +60,7 @@ fn store_schemas(image: &mut [u8], flags: u32, batch: &[u8], stamp: u64) -> u32
     next
 }
 
-// Records a batch of one entry or more, once opening's check has passed: 11, 13, 12, or the writes.
+// Records a batch, once opening's check has passed: nothing for an empty one, else 11, 13, 12, or the writes.
 pub fn batch_opened(image: &mut [u8], flags: u32, batch: &[u8], stamp: u64) -> bits::Numbered
     requires { ⌜ openCheck (now image) ≡ 0 ⌝ }
     ensures { λ r. ⌜ BatchDone (lentAt (now (image .entry)) flags) (entries (now (batch .entry))) stamp (outcomeNo (r .outcome)) (lentAt (now (image .exit)) (r .flags)) ⌝ }

@@ -79,7 +79,7 @@ pub fn first_row(image: &[u8], schema: u64) -> usize
     i
 }
 
-// The row of a handle's finest tier. An image in good order has a row, so the loop asks for the count behind its first turn.
+// The row of a handle's finest tier. An image in good order has a row, so the loop asks for the count after its first turn.
 pub fn finest_row(image: &[u8], schema: u64, column: u64) -> Finest
     requires { ⌜ openCheck (now image) ≡ 0 ⌝ }
     ensures { λ r. ⌜ r ≡ finestOf (now (image .entry)) schema column ⌝ }

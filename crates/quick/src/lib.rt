@@ -1,7 +1,7 @@
 // A quick pass over header, rows and slab headers that only says "all good": then opening's check passes. Where it does not say so, the plain check in document
 // 01's order decides. So it may leave rare shapes to the plain check: a slab of 2^27 slots or more, and a tier that holds 73 years or more. Below that no
 // product can wrap, and no row is divided. Two fields that stand side by side are read as one word (`pair`), and what the rows of a schema share is carried
-// from row to row (`Shared`).
+// from row to row (`Shared`). `check` asks this pass, then the plain check.
 ghost use mathlib.Core.Path.{_≡_};
 ghost use mathlib.Core.Bool.{true};
 ghost use Prim.Native.Nat.{_+_, _*_, _<_, _≤_};
@@ -248,8 +248,8 @@ pub fn is_good(s: &[u8]) -> bool
     false
 }
 
-// What the plain check says, by its number. A function of its own: written out in `check`, the compiler copies the slice there by a load of 16 bytes behind
-// two stores of 8, which stalls every call.
+// What the plain check says, by its number. A function of its own: written out in `check`, the compiler copies the slice there by a load of 16 bytes right
+// after two stores of 8, which stalls every call.
 fn check_plainly(s: &[u8]) -> u32
     ensures { λ n. ⌜ n ≡ openCheck (now (s .entry)) ⌝ }
 {
