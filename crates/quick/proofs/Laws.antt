@@ -12,7 +12,7 @@ use Rattle.quick.specs.declared.Shared.{Shared}
 use Rattle.quick.specs.declared.Step.{Step}
 use Rattle.quick.specs.declared.Step.the-variants as S
 use Rattle.quick.specs.Pass.{Start}
-use Rattle.quick.specs.Seen.{PairAt, Known, IfGood, Begun, Followed, Joined, Early, Ends, Slotted, Timed, Slab, Here}
+use Rattle.quick.specs.Seen.{PairAt, Known, IfGood, Begun, Followed, Joined, Early, Only, NextTier, Ends, Slotted, Timed, Slab, Here}
 use Rattle.model.specs.Layout.{slabLength, columnAt, columnBehind, stampsBehind, directory}
 
 pub length-is : (n m : ℕ) → n * (8 * m + 8) + (4 * m + 64) ≡ slabLength n m
@@ -26,6 +26,12 @@ product-low n d some few h =
     let up : d ≤ q * 4_294_967_296 + 4_294_967_295 = omega arith in
     let one : 1 ≤ n = omega arith in
     omega (arith, mul-le-mul-right n up, mul-le-mul-right q one)
+
+-- the same of fewer than 2^20 slots, by the interval alone
+pub brief-low : (n d : ℕ) → n < 1_048_576 → d < 8_796_093_022_208 → n * d + d < 2 ^ 63
+brief-low n d few h =
+    let up : n ≤ 1_048_575 = omega arith in
+    omega (arith, mul-le-mul-right d up)
 
 -- ---- words of rows
 
@@ -101,6 +107,28 @@ next-tier s i {w} {x} a b e f =
       known = f .known;
     }
 
+-- the tier after row i's, where all rows are of schema 0
+pub next-only : (s : List ℕ) (i : ℕ) {x : ℕ} {q : Shared} → Only s i → PairAt s (96 + 64 * i) x → x ≡ 4_294_967_296 * (i + 1) → Followed s i q → NextTier s i q
+unfolding rowAt rowPlace
+next-only s i {x} o b e f =
+    let n : 96 + 64 * i ≡ 32 + 64 * (i + 1) = omega arith in
+    let b′ : PairAt s (32 + 64 * (i + 1)) x = rw n at b in
+    let schema-is : get 4 s (32 + 64 * (i + 1)) ≡ 0 = omega (arith, b′ .0, b′ .1, e) in
+    let tier-is : get 4 s (32 + 64 * (i + 1) + 4) ≡ i + 1 = omega (arith, b′ .0, b′ .1, e) in
+    record {
+      joined = record {
+        joins = inl (record {
+          schema-is = omega (arith, schema-is, o .schema-is);
+          tier-is = omega (arith, tier-is, o .tier-is);
+          series-is = f .series-is;
+          hash-is = f .hash-is;
+          longer = f .longer;
+        });
+        known = f .known;
+      };
+      only = record { schema-is = schema-is; tier-is = tier-is };
+    }
+
 -- by the step's case
 pub stepped-start : (s : List ℕ) (i g : ℕ) (x : Step) → g ≡ get 4 s (32 + 64 * i) → IfGood (Begun s (i + 1) (g + 1)) x → IfGood (Joined s i) x
 stepped-start s i g (S.Good q) e h = next-start s i e h
@@ -112,6 +140,11 @@ pub stepped-tier : (s : List ℕ) (i w x : ℕ) (y : Step) → PairAt s (32 + 64
 stepped-tier s i w x (S.Good q) a b e h = next-tier s i a b e h
 stepped-tier s i w x (S.Bad) a b e h = h
 
+pub stepped-only : (s : List ℕ) (i x : ℕ) (y : Step) → Only s i → PairAt s (96 + 64 * i) x → x ≡ 4_294_967_296 * (i + 1)
+    → IfGood (Followed s i) y → IfGood (NextTier s i) y
+stepped-only s i x (S.Good q) o b e h = next-only s i o b e h
+stepped-only s i x (S.Bad) o b e h = h
+
 -- the last row's schema, by its word
 pub ends-is : (s : List ℕ) (i : ℕ) {g l : ℕ} → g ≡ get 4 s 8 → g ≤ 8 → l ≡ get 4 s (32 + 64 * i) → g ≡ l + 1 → Ends s i
 unfolding schemas rowAt rowPlace
@@ -121,6 +154,9 @@ ends-is s i a f b e = record { few-schemas = omega (arith, a, f); last-is = omeg
 pub len-is : (s : List ℕ) (i : ℕ) {x : ℕ} → x ≡ get 8 s (72 + 64 * i) → x ≡ rowAt s i .len
 unfolding rowAt rowPlace
 len-is s i e = let q : 72 + 64 * i ≡ 32 + 64 * i + 40 = omega arith in e ∙ ap (get 8 s) q
+
+pub len-next : (s : List ℕ) (i : ℕ) {x : ℕ} → x ≡ get 8 s (136 + 64 * i) → x ≡ rowAt s (i + 1) .len
+len-next s i e = let q : 136 + 64 * i ≡ 72 + 64 * (i + 1) = omega arith in len-is s (i + 1) (e ∙ ap (get 8 s) q)
 
 -- ---- slabs
 

@@ -76,6 +76,16 @@ pub record Early (s : List ℕ) (i : ℕ) : Type 0 where
   pub schema-low : rowAt s i .schema ≤ i
   pub tier-low : rowAt s i .tier ≤ i
 
+-- row i is tier i of schema 0
+pub record Only (s : List ℕ) (i : ℕ) : Type 0 where
+  pub schema-is : rowAt s i .schema ≡ 0
+  pub tier-is : rowAt s i .tier ≡ i
+
+-- row i + 1 joins row i, and is tier i + 1 of schema 0
+pub record NextTier (s : List ℕ) (i : ℕ) (q : Shared) : Type 0 where
+  pub joined : Joined s i q
+  pub only : Only s (i + 1)
+
 -- row i is of the last schema
 pub record Ends (s : List ℕ) (i : ℕ) : Type 0 where
   pub few-schemas : schemas s ≤ 8
@@ -157,6 +167,13 @@ early-first s h = record { schema-low = omega (arith, h .schema-is); tier-low = 
 pub early-more : (s : List ℕ) (i : ℕ) → Early s i → Joins (rowAt s i) (rowAt s (i + 1)) → Early s (i + 1)
 early-more s i e (inl a) = record { schema-low = omega (arith, a .schema-is, e .schema-low); tier-low = omega (arith, a .tier-is, e .tier-low) }
 early-more s i e (inr a) = record { schema-low = omega (arith, a .schema-is, e .schema-low); tier-low = omega (arith, a .tier-is) }
+
+-- row 0 is tier 0 of schema 0; a last row of schema 0, where one schema is
+pub only-first : (s : List ℕ) → Start 0 (rowAt s 0) → Only s 0
+only-first s h = record { schema-is = h .schema-is; tier-is = h .tier-is }
+
+pub only-ends : (s : List ℕ) (i : ℕ) → Only s i → schemas s ≡ 1 → Ends s i
+only-ends s i h e = record { few-schemas = omega (arith, e); last-is = omega (arith, e, h .schema-is) }
 
 -- with the last row i
 pub joined-all : (s : List ℕ) (n i : ℕ) → Start 0 (rowAt s 0) → JoinsTo s i → i + 1 ≡ n → schemas s ≡ rowAt s i .schema + 1 → JoinedUpTo s n

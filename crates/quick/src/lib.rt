@@ -1,13 +1,14 @@
 // A quick pass over header, rows and slab headers that only says "all good": then opening's check passes. Where it does not say so, the plain check in document
-// 01's order decides. So it may leave rare shapes to the plain check: a slab of 2^27 slots or more, and a tier that holds 73 years or more. Below that no
-// product can wrap, and no row is divided. Two fields that stand side by side are read as one word (`pair`), and what the rows of a schema share is carried
-// from row to row (`Shared`). `check` asks this pass, then the plain check.
+// 01's order decides. So it may leave rare shapes to the plain check: an image of 2 GiB or more, a slab of 2^27 slots or more, and a tier that holds 73 years
+// or more. Below that no product can wrap, and no row is divided. Two fields that stand side by side are read as one word (`pair`), and what the rows of a
+// schema share is carried from row to row (`Shared`). A store of one schema with at most four rows has a loop of its own (`few_good`), which the compiler
+// writes out row by row. `check` asks this pass, then the plain check.
 ghost use mathlib.Core.Path.{_≡_};
 ghost use mathlib.Core.Bool.{true};
-ghost use Prim.Native.Nat.{_+_, _*_, _<_, _≤_};
+ghost use Prim.Native.Nat.{_+_, _*_, _<_, _≤_, _^_};
 ghost use lib.ListN.{length};
-ghost use Rattle.model.specs.Image.{rowCount, rowAt, openCheck};
-ghost use Rattle.quick.specs.Seen.{PairAt, Head, Known, IfGood, Begun, Followed, Joined, Slotted, Timed, Slab, Here, Early, Ends, All};
+ghost use Rattle.model.specs.Image.{schemas, rowCount, openCheck};
+ghost use Rattle.quick.specs.Seen.{PairAt, Head, Known, IfGood, Begun, Followed, Joined, Only, NextTier, Slotted, Timed, Slab, Here, Early, Ends, All};
 
 // Two u32 that stand side by side, as one number: the second counts 2^32. One load; the first is read by itself for its bound alone.
 fn pair(s: &[u8], at: usize) -> u64
@@ -43,7 +44,7 @@ fn head_good(s: &[u8]) -> bool
     if field::get_u64(s, 24) != 0 {
         return false;
     }
-    if total > 0x100_0000_0000 {
+    if total > 0x7fff_ffff {
         return false;
     }
     total >= 96 + 64 * n
@@ -123,33 +124,57 @@ fn joins(s: &[u8], i: usize, p: Shared) -> Step
     starts(s, i + 1, k)
 }
 
-// n slots of an interval are what a retention has, and hold less than 73 years.
-fn slots_good(n: u64, interval: u64, retention: u64) -> bool
-    requires { ⌜ (0 < n) × (n < 134217728) ⌝ }
+// Row i + 1 may stand right after row i as the next tier, where all rows are of schema 0.
+fn next_tier(s: &[u8], i: usize, p: Shared) -> Step
+    requires { ⌜ (32 + 64 * i + 128 ≤ length (now s)) × (i ≤ 32) × Only (now s) i × Known (now s) i p ⌝ }
+    ensures { λ r. ⌜ IfGood (NextTier (now (s .entry)) i) r ⌝ }
+{
+    let x = pair(s, 96 + 64 * i);
+    if x != 0x1_0000_0000 * (i as u64 + 1) {
+        return Step::Bad;
+    }
+    follows(s, i, p)
+}
+
+// n slots, fewer than `most`, of an interval hold less than 2^63 ns. Of fewer than 2^20 slots the interval alone is asked: it is below 2.4 hours.
+fn is_low(n: u64, most: u64, interval: u64) -> bool
+    requires { ⌜ (0 < n) × (n < most) × (most ≤ 134217728) ⌝ }
+    ensures { λ b. ⌜ (b ≡ true → n * interval + interval < 2 ^ 63) ⌝ }
+{
+    if most <= 0x10_0000 {
+        return interval < 0x800_0000_0000;
+    }
+    (interval / 0x1_0000_0000) * n < 0x2000_0000
+}
+
+// n slots, fewer than `most`, of an interval are what a retention has.
+fn slots_good(n: u64, most: u64, interval: u64, retention: u64) -> bool
+    requires { ⌜ (0 < n) × (n < most) × (most ≤ 134217728) ⌝ }
     ensures { λ b. ⌜ (b ≡ true → Slotted n interval retention) ⌝ }
 {
-    if (interval / 0x1_0000_0000) * n >= 0x2000_0000 {
+    let low = is_low(n, most, interval);
+    if !low {
         return false;
     }
     let rest = std::num::wrapping_sub_u64(retention, n * interval);
     rest < interval
 }
 
-// The slab at `at` has a row's interval, and n slots are what the row has.
-fn timed_good(s: &[u8], at: usize, r: model::Row, n: u64) -> bool
-    requires { ⌜ (at + 64 ≤ length (now s)) × (0 < n) × (n < 134217728) ⌝ }
+// The slab at `at` has a row's interval, and n slots, fewer than `most`, are what the row has.
+fn timed_good(s: &[u8], at: usize, r: model::Row, n: u64, most: u64) -> bool
+    requires { ⌜ (at + 64 ≤ length (now s)) × (0 < n) × (n < most) × (most ≤ 134217728) ⌝ }
     ensures { λ b. ⌜ (b ≡ true → Timed (now (s .entry)) at r n) ⌝ }
 {
     let interval = r.interval;
     if field::get_u64(s, at + 24) != interval {
         return false;
     }
-    slots_good(n, interval, r.retention)
+    slots_good(n, most, interval, r.retention)
 }
 
-// The slab at `at` is a row's, which shares p.
-fn slab_good(s: &[u8], at: usize, r: model::Row, p: Shared) -> bool
-    requires { ⌜ (at + 64 ≤ length (now s)) × (p .series < 4294967296) × (p .high ≡ 4294967296 * p .series) ⌝ }
+// The slab at `at` is a row's, which shares p, and has fewer than `most` slots.
+fn slab_good(s: &[u8], at: usize, r: model::Row, p: Shared, most: u64) -> bool
+    requires { ⌜ (at + 64 ≤ length (now s)) × (p .series < 4294967296) × (p .high ≡ 4294967296 * p .series) × (most ≤ 134217728) ⌝ }
     ensures { λ b. ⌜ (b ≡ true → Slab (now (s .entry)) at r (p .series) (p .hash)) ⌝ }
 {
     let named = pair(s, at);
@@ -161,7 +186,7 @@ fn slab_good(s: &[u8], at: usize, r: model::Row, p: Shared) -> bool
     }
     let y = pair(s, at + 16);
     let n = std::num::wrapping_sub_u64(y, p.high);
-    if n >= 0x800_0000 {
+    if n >= most {
         return false;
     }
     if field::get_u32(s, at + 32) >= n {
@@ -170,12 +195,12 @@ fn slab_good(s: &[u8], at: usize, r: model::Row, p: Shared) -> bool
     if r.len != n * (8 * p.series + 8) + (4 * p.series + 64) {
         return false;
     }
-    timed_good(s, at, r, n)
+    timed_good(s, at, r, n, most)
 }
 
-// Row i, which shares p, and whose slab stands at `at`.
-fn place_good(s: &[u8], i: usize, at: usize, p: Shared) -> bool
-    requires { ⌜ (32 + 64 * i + 64 ≤ length (now s)) × (at + 64 ≤ length (now s)) × Known (now s) i p ⌝ }
+// Row i, which shares p, and whose slab stands at `at` and has fewer than `most` slots.
+fn place_good(s: &[u8], i: usize, at: usize, p: Shared, most: u64) -> bool
+    requires { ⌜ (32 + 64 * i + 64 ≤ length (now s)) × (at + 64 ≤ length (now s)) × Known (now s) i p × (most ≤ 134217728) ⌝ }
     ensures { λ b. ⌜ (b ≡ true → Here (now (s .entry)) i at) ⌝ }
 {
     let r = rows::row_at(s, i);
@@ -185,7 +210,7 @@ fn place_good(s: &[u8], i: usize, at: usize, p: Shared) -> bool
     if r.mark >= 0x8000_0000_0000_0000 {
         return false;
     }
-    slab_good(s, at, r, p)
+    slab_good(s, at, r, p, most)
 }
 
 // The last row, i, is of the last schema.
@@ -214,7 +239,7 @@ fn rows_good(s: &[u8], n: usize, total: usize) -> bool
     let mut p = begin;
     let mut at = 32 + 64 * n;
     let mut i = 0;
-    let mut here = place_good(s, 0, at, p);
+    let mut here = place_good(s, 0, at, p, 0x800_0000);
     while here {
         at += field::get_u64(s, 72 + 64 * i) as usize;
         if i + 1 == n {
@@ -230,9 +255,49 @@ fn rows_good(s: &[u8], n: usize, total: usize) -> bool
         };
         p = q;
         i += 1;
-        here = place_good(s, i, at, p);
+        here = place_good(s, i, at, p, 0x800_0000);
     }
     false
+}
+
+// The n rows, at most four, are the tiers of schema 0, and their slabs stand one behind the other, up to `total`. They have fewer than 2^20 slots and intervals
+// below 2.4 hours. The loop's turns are so few that the compiler writes them out.
+fn few_good(s: &[u8], n: usize, total: usize) -> bool
+    requires { ⌜ (0 < n) × (n ≤ 4) × (n ≡ rowCount (now s)) × (96 + 64 * n ≤ total) × (total ≤ length (now s)) × (total ≤ 1099511627776) ⌝ }
+    ensures { λ b. ⌜ (b ≡ true → schemas (now (s .entry)) ≡ 1 → All (now (s .entry)) n total) ⌝ }
+{
+    let first = starts(s, 0, 0);
+    let Step::Good(begin) = first else {
+        return false;
+    };
+    let mut p = begin;
+    let mut at = 32 + 64 * n;
+    let begun = place_good(s, 0, at, p, 0x10_0000);
+    if !begun {
+        return false;
+    }
+    at += field::get_u64(s, 72) as usize;
+    let mut i = 0;
+    while i < 3 {
+        if i + 1 == n {
+            return at == total;
+        }
+        if at + 64 > total {
+            return false;
+        }
+        let next = next_tier(s, i, p);
+        let Step::Good(q) = next else {
+            return false;
+        };
+        p = q;
+        let here = place_good(s, i + 1, at, p, 0x10_0000);
+        if !here {
+            return false;
+        }
+        at += field::get_u64(s, 136 + 64 * i) as usize;
+        i += 1;
+    }
+    at == total
 }
 
 // All good: opening's check passes.
@@ -243,6 +308,15 @@ pub fn is_good(s: &[u8]) -> bool
     if headed {
         let n = field::get_u32(s, 12) as usize;
         let total = field::get_u64(s, 16) as usize;
+        if n <= 4 {
+            let few = few_good(s, n, total);
+            if few {
+                let schemas = field::get_u32(s, 8);
+                if schemas == 1 {
+                    return true;
+                }
+            }
+        }
         return rows_good(s, n, total);
     }
     false

@@ -39,7 +39,7 @@ add-at : tie.Need-add-at Inv-loop μ-loop
 add-at c = omega arith
 
 place-good-requires : tie.Need-place-good-requires Inv-loop μ-loop
-place-good-requires c κs = (omega arith, omega arith, (good-is (Begun (c .before .before .before .before .before .args .s .now) 0 0) (c .before .first .given .1) (c .before .before .before .starts .ensures)) .known)
+place-good-requires c κs = (omega arith, omega arith, (good-is (Begun (c .before .before .before .before .before .args .s .now) 0 0) (c .before .first .given .1) (c .before .before .before .starts .ensures)) .known, omega arith)
 
 loop-holds : tie.Need-loop-holds Inv-loop μ-loop
 loop-holds c = (omega arith, omega arith, joins-none (c .before .before .before .before .before .before .args .s .now), early-first (c .before .before .before .before .before .before .args .s .now) ((good-is (Begun (c .before .before .before .before .before .before .args .s .now) 0 0) (c .before .before .first .given .1) (c .before .before .before .before .starts .ensures)) .start), (good-is (Begun (c .before .before .before .before .before .before .args .s .now) 0 0) (c .before .before .first .given .1) (c .before .before .before .before .starts .ensures)) .known, rw (c .before .before .before .before .before .before .pre .2) (placed-none (c .before .before .before .before .before .before .args .s .now)), c .place-good .ensures)
@@ -85,7 +85,7 @@ add-i : tie.Need-add-i Inv-loop μ-loop
 add-i c = omega arith
 
 place-good-requires-2 : tie.Need-place-good-requires-2 Inv-loop μ-loop
-place-good-requires-2 c κs = (omega arith, omega arith, (good-is (Joined (c .before .before .before .before .before .before .before .before .before .before .before .before .before .before .before .args .s .now) (c .before .before .before .before .before .before .before .before .loop .i)) (c .before .next .given .1) (c .before .before .before .joins .ensures)) .known)
+place-good-requires-2 c κs = (omega arith, omega arith, (good-is (Joined (c .before .before .before .before .before .before .before .before .before .before .before .before .before .before .before .args .s .now) (c .before .before .before .before .before .before .before .before .loop .i)) (c .before .next .given .1) (c .before .before .before .joins .ensures)) .known, omega arith)
 
 loop-less : tie.Need-loop-less Inv-loop μ-loop
 loop-less c = omega arith

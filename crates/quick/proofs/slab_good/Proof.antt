@@ -67,10 +67,10 @@ returns-5 : tie.Need-returns-5
 returns-5 c = λ e. absurd (false≢true e)
 
 timed-good-requires : tie.Need-timed-good-requires
-timed-good-requires c κs = (c .before .before .before .before .before .before .before .before .before .before .before .before .before .before .before .pre .0, omega (arith, c .before .before .before .before .if4 .left), c .before .before .before .before .before .before .if3 .left)
+timed-good-requires c κs = (c .before .before .before .before .before .before .before .before .before .before .before .before .before .before .before .pre .0, omega (arith, c .before .before .before .before .if4 .left), c .before .before .before .before .before .before .if3 .left, c .before .before .before .before .before .before .before .before .before .before .before .before .before .before .before .pre .3)
 
 returns-6 : tie.Need-returns-6
-returns-6 c = λ e. slab-is (c .before .before .before .before .before .before .before .before .before .before .before .before .before .before .before .before .args .s .now) (c .before .before .before .before .before .before .before .before .before .before .before .before .before .before .before .before .args .at) (c .before .before .before .before .before .before .before .before .before .before .before .before .before .before .before .before .args .r) (c .before .before .before .before .before .before .before .before .before .before .before .before .before .before .before .before .args .p .series) (c .before .before .before .before .before .before .before .before .before .before .before .before .before .before .before .before .args .p .hash) (c .before .before .before .before .before .before .before .before .before .before .before .before .before .before .before .before .pre .1) (c .before .before .before .before .before .before .before .before .before .before .before .before .before .before .pair .ensures) (c .before .before .before .before .before .before .before .before .before .before .before .before .before .if1 .left) (c .before .before .before .before .before .before .before .before .before .before .before .before .get-u64 .ensures) (c .before .before .before .before .before .before .before .before .before .before .if2 .left) (c .before .before .before .before .before .before .before .before .before .pair2 .ensures) (rw (c .before .before .before .before .before .before .before .before .before .before .before .before .before .before .before .before .pre .2) at (c .before .before .before .before .before .before .before .before .wrapping-sub-u64 .ensures)) (c .before .before .before .before .before .before .before .if3 .left) (c .before .before .before .before .before .before .get-u32 .ensures .0) (c .before .before .before .before .before .if4 .left) (c .before .if5 .left) (c .timed-good .ensures e)
+returns-6 c = λ e. slab-is (c .before .before .before .before .before .before .before .before .before .before .before .before .before .before .before .before .args .s .now) (c .before .before .before .before .before .before .before .before .before .before .before .before .before .before .before .before .args .at) (c .before .before .before .before .before .before .before .before .before .before .before .before .before .before .before .before .args .r) (c .before .before .before .before .before .before .before .before .before .before .before .before .before .before .before .before .args .p .series) (c .before .before .before .before .before .before .before .before .before .before .before .before .before .before .before .before .args .p .hash) (c .before .before .before .before .before .before .before .before .before .before .before .before .before .before .before .before .pre .1) (c .before .before .before .before .before .before .before .before .before .before .before .before .before .before .pair .ensures) (c .before .before .before .before .before .before .before .before .before .before .before .before .before .if1 .left) (c .before .before .before .before .before .before .before .before .before .before .before .before .get-u64 .ensures) (c .before .before .before .before .before .before .before .before .before .before .if2 .left) (c .before .before .before .before .before .before .before .before .before .pair2 .ensures) (rw (c .before .before .before .before .before .before .before .before .before .before .before .before .before .before .before .before .pre .2) at (c .before .before .before .before .before .before .before .before .wrapping-sub-u64 .ensures)) (omega (arith, c .before .before .before .before .before .before .before .if3 .left, c .before .before .before .before .before .before .before .before .before .before .before .before .before .before .before .before .pre .3)) (c .before .before .before .before .before .before .get-u32 .ensures .0) (c .before .before .before .before .before .if4 .left) (c .before .if5 .left) (c .timed-good .ensures e)
 
 pub slab-good-spec : {M : Type 1} → statement M
 slab-good-spec =
