@@ -1,5 +1,5 @@
-// `record` with the flags as one number, as it crosses the edge to C, once opening's check has passed: one flag is read and one may be set, in place, the
-// others are not looked at.
+// `record` with the flags as one number, as it crosses the edge to C, once opening's check has passed. No flag is read: the row's ring is
+// written as if its flag were off, which gives the same bytes, and the flag is set, in place, where the write went below the cursor.
 ghost use mathlib.Core.Path.{_≡_};
 ghost use Rattle.model.specs.Image.{openCheck};
 ghost use Rattle.bits.specs.One.{lentAt};
@@ -19,10 +19,10 @@ pub fn record(
     let found = record::ready_opened(image, handle, value, stamp);
     match found {
         record::Target::Row(row) => {
-            let before = *flags;
-            let wrapped = bits::flag_at(before, row);
-            let after = record::store(image, row, handle.column as usize, value, stamp, wrapped);
-            *flags = bits::with_flag(before, row, after);
+            let lower = record::store(image, row, handle.column as usize, value, stamp, false);
+            if lower {
+                *flags = bits::with_flag(*flags, row, true);
+            }
             0
         }
         record::Target::Refused(r) => model::refusal_number(r),

@@ -3,17 +3,19 @@
 use Prim.Native.Nat.{ℕ, zero, suc, _<_}
 use native.Mathlib.Nat.{add-zero}
 use native.Mathlib.Omega.{arith}
-use mathlib.Core.Path.{_≡_, refl, sym, _∙_}
+use mathlib.Core.Path.{_≡_, refl, sym, ap, _∙_}
 use mathlib.Core.Logic.{_≢_}
-use mathlib.Core.Bool.{Bool, true, false}
-use mathlib.Core.List.{List}
+use mathlib.Core.Bool.{Bool, true, false, _||_, cond, or-true, or-false}
+use mathlib.Core.List.{List, []}
 use lib.ListN.{getD, set}
+use lib.Seq.{set-getD}
 use Rattle.model.specs.declared.Refusal.{Refusal}
 use Rattle.model.specs.Words.{numberOf}
 use Rattle.model.specs.Image.{first, openCheck}
 use Rattle.model.specs.Ring.{ColumnValue, write}
-use Rattle.model.specs.Lent.{Lent, ring, withRing, rowNo}
+use Rattle.model.specs.Lent.{Lent, row, ring, withRing, rowNo}
 use Rattle.model.specs.Record.{recordCheck, recordOn, writeTo}
+use Rattle.rings.specs.Write.{write-is, flag-is}
 use Rattle.rows.specs.First.{refusal-no}
 use Rattle.ring.specs.Parts.{one}
 use Rattle.lent.specs.Parts.{finestOf}
@@ -49,6 +51,20 @@ pub record RowWritten (s u : List ℕ) (i : ℕ) (es : List ColumnValue) (t : �
   pub lent-is : (bs : List Bool) → w ≡ getD bs i false → lentBy u (set bs i b) ≡ withRing (lentBy s bs) i (write (ring (lentBy s bs) i) es t)
   pub stays : w ≡ true → b ≡ true
 
+-- a write's bytes do not depend on the flag: a ring written as if its flag were off is written with any flag w
+pub any-flag : {s u : List ℕ} {i : ℕ} {es : List ColumnValue} {t : ℕ} {b : Bool} → RowWritten s u i es t false b → (w : Bool) → RowWritten s u i es t w (w || b)
+unfolding withRing ring row
+any-flag h false = h
+any-flag {s} {u} {i} {es} {t} h true = record { lent-is = lent-is; stays = λ _. refl }
+  where
+    lent-is : (bs : List Bool) → true ≡ getD bs i false → lentBy u (set bs i true) ≡ withRing (lentBy s bs) i (write (ring (lentBy s bs) i) es t)
+    lent-is bs e = rw (ap (λ (l : Lent). l .image) (h .lent-is [] refl), write-is (ring (lentBy s []) i) es t, write-is, flag-is, ← e)
+
+-- a flag set where b says so
+raised : (bs : List Bool) (i : ℕ) (b : Bool) → set bs i (getD bs i false || b) ≡ cond b (set bs i true) bs
+raised bs i true = ap (set bs i) (or-true (getD bs i false))
+raised bs i false = ap (set bs i) (or-false (getD bs i false)) ∙ set-getD bs i false
+
 module _ (s : List ℕ) (bs : List Bool) (k c v t : ℕ) where
   -- opening's refusal is record's
   pub unopened : (n : ℕ) → n ≢ 0 → n ≡ openCheck s → n ≡ recordCheck (lentBy s bs) k c v t
@@ -69,3 +85,8 @@ module _ (s : List ℕ) (bs : List Bool) (k c v t : ℕ) where
     answer-is = sym (a .accepted bs);
     lent-is = h .lent-is bs e ∙ unfold recordOn writeTo rowNo in (rw (a .accepted bs, add-zero, handle-at (lentBy s bs) k c (a .row-is) .1));
   }
+
+  -- written as if the flag were off: the flag is set where the write sets it, else it stays
+  pub recorded-apart : {u : List ℕ} {i : ℕ} {b : Bool} {fs : List Bool} → ReadyAt s k c v t i → RowWritten s u i (one c v) t false b → fs ≡ cond b (set bs i true) bs
+      → RecordDone (lentBy s bs) k c v t 0 (lentBy u fs)
+  recorded-apart {u} {i} {b} a h e = rw (e, ← raised bs i b) (recorded a (any-flag h (getD bs i false)) refl)
