@@ -9,10 +9,8 @@ use Rattle.model.specs.declared.Row.{Row}
 use Rattle.model.specs.Bytes.{get}
 use Rattle.model.specs.Image.{schemas, rowPlace, rowAt}
 use Rattle.quick.specs.declared.Shared.{Shared}
-use Rattle.quick.specs.declared.Step.{Step}
-use Rattle.quick.specs.declared.Step.the-variants as S
 use Rattle.quick.specs.Pass.{Start}
-use Rattle.quick.specs.Seen.{PairAt, Known, IfGood, Begun, Followed, Joined, Early, Only, NextTier, Ends, Slotted, Timed, Slab, Here}
+use Rattle.quick.specs.Seen.{PairAt, Known, Begun, Followed, Joined, Early, Only, NextTier, Ends, Slotted, Timed, Slab, Here}
 use Rattle.model.specs.Layout.{slabLength, columnAt, columnBehind, stampsBehind, directory}
 
 pub length-is : (n m : ℕ) → n * (8 * m + 8) + (4 * m + 64) ≡ slabLength n m
@@ -111,39 +109,14 @@ next-tier s i {w} {x} a b e f =
 pub next-only : (s : List ℕ) (i : ℕ) {x : ℕ} {q : Shared} → Only s i → PairAt s (96 + 64 * i) x → x ≡ 4_294_967_296 * (i + 1) → Followed s i q → NextTier s i q
 unfolding rowAt rowPlace
 next-only s i {x} o b e f =
+    let a : 96 + 64 * i ≡ 32 + 64 * i + 64 = omega arith in
     let n : 96 + 64 * i ≡ 32 + 64 * (i + 1) = omega arith in
+    let w : PairAt s (32 + 64 * i) (4_294_967_296 * i) = (omega (arith, o .schema-is, o .tier-is), omega (arith, o .schema-is)) in
     let b′ : PairAt s (32 + 64 * (i + 1)) x = rw n at b in
-    let schema-is : get 4 s (32 + 64 * (i + 1)) ≡ 0 = omega (arith, b′ .0, b′ .1, e) in
-    let tier-is : get 4 s (32 + 64 * (i + 1) + 4) ≡ i + 1 = omega (arith, b′ .0, b′ .1, e) in
     record {
-      joined = record {
-        joins = inl (record {
-          schema-is = omega (arith, schema-is, o .schema-is);
-          tier-is = omega (arith, tier-is, o .tier-is);
-          series-is = f .series-is;
-          hash-is = f .hash-is;
-          longer = f .longer;
-        });
-        known = f .known;
-      };
-      only = record { schema-is = schema-is; tier-is = tier-is };
+      joined = next-tier s i w (rw a at b) (omega (arith, e)) f;
+      only = record { schema-is = omega (arith, b′ .0, b′ .1, e); tier-is = omega (arith, b′ .0, b′ .1, e) };
     }
-
--- by the step's case
-pub stepped-start : (s : List ℕ) (i g : ℕ) (x : Step) → g ≡ get 4 s (32 + 64 * i) → IfGood (Begun s (i + 1) (g + 1)) x → IfGood (Joined s i) x
-stepped-start s i g (S.Good q) e h = next-start s i e h
-stepped-start s i g (S.Bad) e h = h
-
-pub stepped-tier : (s : List ℕ) (i w x : ℕ) (y : Step) → PairAt s (32 + 64 * i) w
-    → PairAt s (32 + 64 * i + 64) x → x ≡ w + 4_294_967_296
-    → IfGood (Followed s i) y → IfGood (Joined s i) y
-stepped-tier s i w x (S.Good q) a b e h = next-tier s i a b e h
-stepped-tier s i w x (S.Bad) a b e h = h
-
-pub stepped-only : (s : List ℕ) (i x : ℕ) (y : Step) → Only s i → PairAt s (96 + 64 * i) x → x ≡ 4_294_967_296 * (i + 1)
-    → IfGood (Followed s i) y → IfGood (NextTier s i) y
-stepped-only s i x (S.Good q) o b e h = next-only s i o b e h
-stepped-only s i x (S.Bad) o b e h = h
 
 -- the last row's schema, by its word
 pub ends-is : (s : List ℕ) (i : ℕ) {g l : ℕ} → g ≡ get 4 s 8 → g ≤ 8 → l ≡ get 4 s (32 + 64 * i) → g ≡ l + 1 → Ends s i
@@ -154,9 +127,6 @@ ends-is s i a f b e = record { few-schemas = omega (arith, a, f); last-is = omeg
 pub len-is : (s : List ℕ) (i : ℕ) {x : ℕ} → x ≡ get 8 s (72 + 64 * i) → x ≡ rowAt s i .len
 unfolding rowAt rowPlace
 len-is s i e = let q : 72 + 64 * i ≡ 32 + 64 * i + 40 = omega arith in e ∙ ap (get 8 s) q
-
-pub len-next : (s : List ℕ) (i : ℕ) {x : ℕ} → x ≡ get 8 s (136 + 64 * i) → x ≡ rowAt s (i + 1) .len
-len-next s i e = let q : 136 + 64 * i ≡ 72 + 64 * (i + 1) = omega arith in len-is s (i + 1) (e ∙ ap (get 8 s) q)
 
 -- ---- slabs
 

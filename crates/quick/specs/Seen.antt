@@ -54,6 +54,11 @@ IfGood P (S.Bad) = Unit {0}
 pub good-is : (P : Shared → Type 0) {x : Step} {q : Shared} → x ≡ S.Good q → IfGood P x → P q
 good-is P e h = rw e at h
 
+-- and what follows from it
+pub good-map : (P Q : Shared → Type 0) → ((q : Shared) → P q → Q q) → (x : Step) → IfGood P x → IfGood Q x
+good-map P Q f (S.Good q) h = f q h
+good-map P Q f (S.Bad) h = h
+
 -- row i is the first of schema k
 pub record Begun (s : List ℕ) (i k : ℕ) (p : Shared) : Type 0 where
   pub start : Start k (rowAt s i)

@@ -1,8 +1,8 @@
 // A quick pass over header, rows and slab headers that only says "all good": then opening's check passes. Where it does not say so, the plain check in document
-// 01's order decides. So it may leave rare shapes to the plain check: an image of 2 GiB or more, a slab of 2^27 slots or more, and a tier that holds 73 years
-// or more. Below that no product can wrap, and no row is divided. Two fields that stand side by side are read as one word (`pair`), and what the rows of a
-// schema share is carried from row to row (`Shared`). A store of one schema with at most four rows has a loop of its own (`few_good`), which the compiler
-// writes out row by row. `check` asks this pass, then the plain check.
+// 01's order decides. So it may leave rare shapes to the plain check: a slab of 2^27 slots or more and a tier that holds 73 years or more, so that no product
+// can wrap and no row is divided; and an image of 2 GiB or more, so that its bound is one short constant. Two fields that stand side by side are read as one
+// word (`pair`), and what the rows of a schema share is carried from row to row (`Shared`). A store of one schema with at most four rows has a loop of its own
+// (`few_good`), which the compiler writes out row by row. `check` asks this pass, then the plain check.
 ghost use mathlib.Core.Path.{_≡_};
 ghost use mathlib.Core.Bool.{true};
 ghost use Prim.Native.Nat.{_+_, _*_, _<_, _≤_, _^_};
@@ -136,7 +136,7 @@ fn next_tier(s: &[u8], i: usize, p: Shared) -> Step
     follows(s, i, p)
 }
 
-// n slots, fewer than `most`, of an interval hold less than 2^63 ns. Of fewer than 2^20 slots the interval alone is asked: it is below 2.4 hours.
+// n slots, fewer than `most`, of an interval hold less than 2^63 ns. Where `most` is at most 2^20 the interval alone is asked: it is below 2.4 hours.
 fn is_low(n: u64, most: u64, interval: u64) -> bool
     requires { ⌜ (0 < n) × (n < most) × (most ≤ 134217728) ⌝ }
     ensures { λ b. ⌜ (b ≡ true → n * interval + interval < 2 ^ 63) ⌝ }
@@ -260,8 +260,8 @@ fn rows_good(s: &[u8], n: usize, total: usize) -> bool
     false
 }
 
-// The n rows, at most four, are the tiers of schema 0, and their slabs stand one behind the other, up to `total`. They have fewer than 2^20 slots and intervals
-// below 2.4 hours. The loop's turns are so few that the compiler writes them out.
+// The n rows, at most four, are the tiers of schema 0, and their slabs stand one behind the other, up to `total`. Each has fewer than 2^20 slots and an interval
+// below 2.4 hours. How many schemas there are is the caller's to ask. The loop's turns are so few that the compiler writes them out.
 fn few_good(s: &[u8], n: usize, total: usize) -> bool
     requires { ⌜ (0 < n) × (n ≤ 4) × (n ≡ rowCount (now s)) × (96 + 64 * n ≤ total) × (total ≤ length (now s)) × (total ≤ 1099511627776) ⌝ }
     ensures { λ b. ⌜ (b ≡ true → schemas (now (s .entry)) ≡ 1 → All (now (s .entry)) n total) ⌝ }
@@ -294,13 +294,13 @@ fn few_good(s: &[u8], n: usize, total: usize) -> bool
         if !here {
             return false;
         }
-        at += field::get_u64(s, 136 + 64 * i) as usize;
         i += 1;
+        at += field::get_u64(s, 72 + 64 * i) as usize;
     }
     at == total
 }
 
-// All good: opening's check passes.
+// All good: opening's check passes. What `few_good` does not pass, `rows_good` looks at again. The number of schemas is asked last, which is faster.
 pub fn is_good(s: &[u8]) -> bool
     ensures { λ b. ⌜ (b ≡ true → openCheck (now (s .entry)) ≡ 0) ⌝ }
 {

@@ -61,9 +61,9 @@ any-flag {s} {u} {i} {es} {t} h true = record { lent-is = lent-is; stays = λ _.
     lent-is bs e = rw (ap (λ (l : Lent). l .image) (h .lent-is [] refl), write-is (ring (lentBy s []) i) es t, write-is, flag-is, ← e)
 
 -- a flag set where b says so
-raised : (bs : List Bool) (i : ℕ) (b : Bool) → set bs i (getD bs i false || b) ≡ cond b (set bs i true) bs
-raised bs i true = ap (set bs i) (or-true (getD bs i false))
-raised bs i false = ap (set bs i) (or-false (getD bs i false)) ∙ set-getD bs i false
+set-where : (bs : List Bool) (i : ℕ) (b : Bool) → set bs i (getD bs i false || b) ≡ cond b (set bs i true) bs
+set-where bs i true = ap (set bs i) (or-true (getD bs i false))
+set-where bs i false = ap (set bs i) (or-false (getD bs i false)) ∙ set-getD bs i false
 
 module _ (s : List ℕ) (bs : List Bool) (k c v t : ℕ) where
   -- opening's refusal is record's
@@ -87,6 +87,6 @@ module _ (s : List ℕ) (bs : List Bool) (k c v t : ℕ) where
   }
 
   -- written as if the flag were off: the flag is set where the write sets it, else it stays
-  pub recorded-apart : {u : List ℕ} {i : ℕ} {b : Bool} {fs : List Bool} → ReadyAt s k c v t i → RowWritten s u i (one c v) t false b → fs ≡ cond b (set bs i true) bs
+  pub recorded-as-off : {u : List ℕ} {i : ℕ} {b : Bool} {fs : List Bool} → ReadyAt s k c v t i → RowWritten s u i (one c v) t false b → fs ≡ cond b (set bs i true) bs
       → RecordDone (lentBy s bs) k c v t 0 (lentBy u fs)
-  recorded-apart {u} {i} {b} a h e = rw (e, ← raised bs i b) (recorded a (any-flag h (getD bs i false)) refl)
+  recorded-as-off {u} {i} {b} a h e = rw (e, ← set-where bs i b) (recorded a (any-flag h (getD bs i false)) refl)

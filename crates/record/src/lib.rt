@@ -25,7 +25,7 @@ pub fn is_bad_stamp(stamp: u64) -> bool
     stamp == 0 || stamp >= 0x8000_0000_0000_0000
 }
 
-// Stores one value in a row's ring, whose flag is `wrapped`. Answers the flag.
+// Stores one value in a row's ring, as if its flag were `wrapped`. Answers the flag after it.
 pub fn store(
     image: &mut [u8],
     row: usize,

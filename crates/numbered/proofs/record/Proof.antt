@@ -5,7 +5,7 @@ use mathlib.Core.Path.{refl}
 use Rattle.lent.specs.Handle.{row-there}
 use Rattle.bits.specs.Bits.{bits}
 use Rattle.bits.specs.One.{lentAt}
-use Rattle.record.specs.Ready.{row-ready, refusal-ready, refused, recorded-apart}
+use Rattle.record.specs.Ready.{row-ready, refusal-ready, refused, recorded-as-off}
 use borrow.Author.Needs.{needs}
 use Rattle.numbered.proofs.record.Statement.{statement}
 use Rattle.numbered.proofs.record.Tie as tie
@@ -40,7 +40,7 @@ same-length c = search needs
 returns : tie.Need-returns
 returns c =
     let a = c .before .before .before .before .before .before .before .before .before .before .before .before .before .before .args in
-    recorded-apart (a .image .now) (bits 32 (a .flags .now)) (a .handle .schema) (a .handle .column) (a .value) (a .stamp) (row-ready (c .before .before .before .before .before .before .before .before .before .found .given .1) (c .before .before .before .before .before .before .before .before .before .before .before .ready-opened .ensures)) (c .before .before .before .before .before .store .ensures) (rw (c .before .before .if1 .taken) (c .with-flag .ensures))
+    recorded-as-off (a .image .now) (bits 32 (a .flags .now)) (a .handle .schema) (a .handle .column) (a .value) (a .stamp) (row-ready (c .before .before .before .before .before .before .before .before .before .found .given .1) (c .before .before .before .before .before .before .before .before .before .before .before .ready-opened .ensures)) (c .before .before .before .before .before .store .ensures) (rw (c .before .before .if1 .taken) (c .with-flag .ensures))
 
 same-length-2 : tie.Need-same-length-2
 same-length-2 c = search needs
@@ -48,7 +48,7 @@ same-length-2 c = search needs
 returns-2 : tie.Need-returns-2
 returns-2 c =
     let a = c .before .before .before .before .before .before .before .before .before .before .before .before .args in
-    recorded-apart (a .image .now) (bits 32 (a .flags .now)) (a .handle .schema) (a .handle .column) (a .value) (a .stamp) (row-ready (c .before .before .before .before .before .before .before .found .given .1) (c .before .before .before .before .before .before .before .before .before .ready-opened .ensures)) (c .before .before .before .store .ensures) (rw (c .if1 .left))
+    recorded-as-off (a .image .now) (bits 32 (a .flags .now)) (a .handle .schema) (a .handle .column) (a .value) (a .stamp) (row-ready (c .before .before .before .before .before .before .before .found .given .1) (c .before .before .before .before .before .before .before .before .before .ready-opened .ensures)) (c .before .before .before .store .ensures) (rw (c .if1 .left))
 
 same-length-3 : tie.Need-same-length-3
 same-length-3 c = search needs

@@ -1,18 +1,18 @@
 -- `quick::few_good` meets its contract. The loop's invariant: row i is tier i of schema 0, each row up to it joins the row before, and the slabs up to row i's end at `at`. Assumes nothing.
 use mathlib.Core.Bool.{false≢true}
 use native.Mathlib.Omega.{arith}
-use mathlib.Core.Path.{_≡_, subst}
+use mathlib.Core.Path.{subst}
 use Rattle.laws.specs.Tests.{eq-is}
 use Rattle.quick.specs.Seen.{Known, good-is, Begun, Only, NextTier, only-first, only-ends, JoinsTo, joins-none, joins-more, Placed, placed-none, placed-more, All, all-are}
-use Rattle.quick.proofs.Laws.{len-is, len-next}
-use Prim.Native.Nat.{_+_, _-_, _<_, _≤_}
+use Rattle.quick.proofs.Laws.{len-is}
+use Prim.Native.Nat.{_+_, _-_, _^_, _<_, _≤_}
 use borrow.Author.Needs.{needs}
 use borrow.Author.Tests.{not-false}
 use Rattle.quick.proofs.few_good.Statement.{statement}
 use Rattle.quick.proofs.few_good.Tie as tie
 
 abbrev Inv-loop : tie.InvT-loop
-Inv-loop s n total p₀ at₀ begun i₀ p at i = (i < n) × (at ≤ 9_223_373_136_366_403_584) × JoinsTo s i × Only s i × Known s i p × Placed s (i + 1) at
+Inv-loop s n total p₀ at₀ begun i₀ p at i = (i < n) × (at ≤ 2 ^ 63 + 2 ^ 40) × JoinsTo s i × Only s i × Known s i p × Placed s (i + 1) at
 
 abbrev μ-loop : tie.MeasureT-loop
 μ-loop s n total p₀ at₀ begun i₀ p at i = 3 - i
@@ -36,7 +36,10 @@ add-at : tie.Need-add-at Inv-loop μ-loop
 add-at c = omega arith
 
 place-good-requires : tie.Need-place-good-requires Inv-loop μ-loop
-place-good-requires c κs = (omega arith, omega arith, (good-is (Begun (c .before .before .before .before .before .args .s .now) 0 0) (c .before .first .given .1) (c .before .before .before .starts .ensures)) .known, omega arith)
+place-good-requires c κs =
+    let s = c .before .before .before .before .before .args .s .now in
+    let begun = good-is (Begun s 0 0) (c .before .first .given .1) (c .before .before .before .starts .ensures) in
+    (omega arith, omega arith, begun .known, omega arith)
 
 returns-2 : tie.Need-returns-2 Inv-loop μ-loop
 returns-2 c = λ e. absurd (false≢true e)
@@ -45,16 +48,28 @@ get-u64-requires : tie.Need-get-u64-requires Inv-loop μ-loop
 get-u64-requires c κs = omega arith
 
 add-at-2 : tie.Need-add-at-2 Inv-loop μ-loop
-add-at-2 c = omega (arith, len-is (c .before .before .before .before .before .before .before .before .args .s .now) 0 (c .get-u64 .ensures), (c .before .before .place-good .ensures (not-false _ (c .before .if1 .left))) .slab .small)
+add-at-2 c =
+    let s = c .before .before .before .before .before .before .before .before .args .s .now in
+    let here = c .before .before .place-good .ensures (not-false _ (c .before .if1 .left)) in
+    let len = len-is s 0 (c .get-u64 .ensures) in
+    omega (arith, len, here .slab .small)
 
 loop-holds : tie.Need-loop-holds Inv-loop μ-loop
-loop-holds c = (omega arith, omega (arith, len-is (c .before .before .before .before .before .before .before .before .args .s .now) 0 (c .get-u64 .ensures), (c .before .before .place-good .ensures (not-false _ (c .before .if1 .left))) .slab .small), joins-none (c .before .before .before .before .before .before .before .before .args .s .now), only-first (c .before .before .before .before .before .before .before .before .args .s .now) ((good-is (Begun (c .before .before .before .before .before .before .before .before .args .s .now) 0 0) (c .before .before .before .before .first .given .1) (c .before .before .before .before .before .before .starts .ensures)) .start), (good-is (Begun (c .before .before .before .before .before .before .before .before .args .s .now) 0 0) (c .before .before .before .before .first .given .1) (c .before .before .before .before .before .before .starts .ensures)) .known, rw (len-is (c .before .before .before .before .before .before .before .before .args .s .now) 0 (c .get-u64 .ensures)) (placed-more (c .before .before .before .before .before .before .before .before .args .s .now) 0 _ (rw (c .before .before .before .before .before .before .before .before .pre .2) (placed-none (c .before .before .before .before .before .before .before .before .args .s .now))) (c .before .before .place-good .ensures (not-false _ (c .before .if1 .left)))))
+loop-holds c =
+    let s = c .before .before .before .before .before .before .before .before .args .s .now in
+    let begun = good-is (Begun s 0 0) (c .before .before .before .before .first .given .1) (c .before .before .before .before .before .before .starts .ensures) in
+    let here = c .before .before .place-good .ensures (not-false _ (c .before .if1 .left)) in
+    let len = len-is s 0 (c .get-u64 .ensures) in
+    (omega arith, omega (arith, len, here .slab .small), joins-none s, only-first s (begun .start), begun .known, rw len (placed-more s 0 _ (rw (c .before .before .before .before .before .before .before .before .pre .2) (placed-none s)) here))
 
 add-if2 : tie.Need-add-if2 Inv-loop μ-loop
 add-if2 c = omega arith
 
 returns-3 : tie.Need-returns-3 Inv-loop μ-loop
-returns-3 c = λ e z. subst (All (c .before .before .before .before .before .before .before .before .before .before .before .args .s .now) (c .before .before .before .before .before .before .before .before .before .before .before .args .n)) (eq-is (c .before .before .loop .at) (c .before .before .before .before .before .before .before .before .before .before .before .args .total) e) (all-are (c .before .before .before .before .before .before .before .before .before .before .before .args .s .now) (c .before .before .before .before .before .before .before .before .before .before .before .args .n) (c .before .before .loop .i) (c .before .before .loop .at) ((good-is (Begun (c .before .before .before .before .before .before .before .before .before .before .before .args .s .now) 0 0) (c .before .before .before .before .before .before .before .first .given .1) (c .before .before .before .before .before .before .before .before .before .starts .ensures)) .start) (c .before .before .loop .inv .2) (omega arith) (only-ends (c .before .before .before .before .before .before .before .before .before .before .before .args .s .now) (c .before .before .loop .i) (c .before .before .loop .inv .3) z) (c .before .before .loop .inv .5))
+returns-3 c =
+    let s = c .before .before .before .before .before .before .before .before .before .before .before .args .s .now in
+    let begun = good-is (Begun s 0 0) (c .before .before .before .before .before .before .before .first .given .1) (c .before .before .before .before .before .before .before .before .before .starts .ensures) in
+    λ e z. subst (All s (c .before .before .before .before .before .before .before .before .before .before .before .args .n)) (eq-is (c .before .before .loop .at) (c .before .before .before .before .before .before .before .before .before .before .before .args .total) e) (all-are s (c .before .before .before .before .before .before .before .before .before .before .before .args .n) (c .before .before .loop .i) (c .before .before .loop .at) (begun .start) (c .before .before .loop .inv .2) (omega arith) (only-ends s (c .before .before .loop .i) (c .before .before .loop .inv .3) z) (c .before .before .loop .inv .5))
 
 add-if3 : tie.Need-add-if3 Inv-loop μ-loop
 add-if3 c = omega (arith, c .before .before .loop .inv .1)
@@ -78,10 +93,16 @@ add-place-good : tie.Need-add-place-good Inv-loop μ-loop
 add-place-good c = omega arith
 
 place-good-requires-2 : tie.Need-place-good-requires-2 Inv-loop μ-loop
-place-good-requires-2 c κs = (omega arith, omega arith, (good-is (NextTier (c .before .before .before .before .before .before .before .before .before .before .before .before .before .before .before .before .args .s .now) (c .before .before .before .before .before .before .before .loop .i)) (c .before .next .given .1) (c .before .before .before .next-tier .ensures)) .joined .known, omega arith)
+place-good-requires-2 c κs =
+    let s = c .before .before .before .before .before .before .before .before .before .before .before .before .before .before .before .before .args .s .now in
+    let next = good-is (NextTier s (c .before .before .before .before .before .before .before .loop .i)) (c .before .next .given .1) (c .before .before .before .next-tier .ensures) in
+    (omega arith, omega arith, next .joined .known, omega arith)
 
 returns-6 : tie.Need-returns-6 Inv-loop μ-loop
 returns-6 c = λ e. absurd (false≢true e)
+
+add-i : tie.Need-add-i Inv-loop μ-loop
+add-i c = omega arith
 
 mul-get-u64 : tie.Need-mul-get-u64 Inv-loop μ-loop
 mul-get-u64 c = omega arith
@@ -93,19 +114,28 @@ get-u64-requires-2 : tie.Need-get-u64-requires-2 Inv-loop μ-loop
 get-u64-requires-2 c κs = omega arith
 
 add-at-3 : tie.Need-add-at-3 Inv-loop μ-loop
-add-at-3 c = omega (arith, len-next (c .before .before .before .before .before .before .before .before .before .before .before .before .before .before .before .before .before .before .before .args .s .now) (c .before .before .before .before .before .before .before .before .before .before .loop .i) (c .get-u642 .ensures), (c .before .before .place-good2 .ensures (not-false _ (c .before .if4 .left))) .slab .small)
-
-add-i : tie.Need-add-i Inv-loop μ-loop
-add-i c = omega arith
+add-at-3 c =
+    let s = c .before .before .before .before .before .before .before .before .before .before .before .before .before .before .before .before .before .before .before .args .s .now in
+    let here = c .before .before .place-good2 .ensures (not-false _ (c .before .if4 .left)) in
+    let len = len-is s (c .before .before .before .before .before .before .before .before .before .before .loop .i + 1) (c .get-u642 .ensures) in
+    omega (arith, len, here .slab .small)
 
 loop-less : tie.Need-loop-less Inv-loop μ-loop
 loop-less c = omega arith
 
 loop-again : tie.Need-loop-again Inv-loop μ-loop
-loop-again c = (omega arith, omega (arith, len-next (c .before .before .before .before .before .before .before .before .before .before .before .before .before .before .before .before .before .before .before .args .s .now) (c .before .before .before .before .before .before .before .before .before .before .loop .i) (c .get-u642 .ensures), (c .before .before .place-good2 .ensures (not-false _ (c .before .if4 .left))) .slab .small), joins-more (c .before .before .before .before .before .before .before .before .before .before .before .before .before .before .before .before .before .before .before .args .s .now) (c .before .before .before .before .before .before .before .before .before .before .loop .i) (c .before .before .before .before .before .before .before .before .before .before .loop .inv .2) ((good-is (NextTier (c .before .before .before .before .before .before .before .before .before .before .before .before .before .before .before .before .before .before .before .args .s .now) (c .before .before .before .before .before .before .before .before .before .before .loop .i)) (c .before .before .before .before .next .given .1) (c .before .before .before .before .before .before .next-tier .ensures)) .joined .joins), (good-is (NextTier (c .before .before .before .before .before .before .before .before .before .before .before .before .before .before .before .before .before .before .before .args .s .now) (c .before .before .before .before .before .before .before .before .before .before .loop .i)) (c .before .before .before .before .next .given .1) (c .before .before .before .before .before .before .next-tier .ensures)) .only, (good-is (NextTier (c .before .before .before .before .before .before .before .before .before .before .before .before .before .before .before .before .before .before .before .args .s .now) (c .before .before .before .before .before .before .before .before .before .before .loop .i)) (c .before .before .before .before .next .given .1) (c .before .before .before .before .before .before .next-tier .ensures)) .joined .known, rw (len-next (c .before .before .before .before .before .before .before .before .before .before .before .before .before .before .before .before .before .before .before .args .s .now) (c .before .before .before .before .before .before .before .before .before .before .loop .i) (c .get-u642 .ensures)) (placed-more (c .before .before .before .before .before .before .before .before .before .before .before .before .before .before .before .before .before .before .before .args .s .now) (c .before .before .before .before .before .before .before .before .before .before .loop .i + 1) (c .before .before .before .before .before .before .before .before .before .before .loop .at) (c .before .before .before .before .before .before .before .before .before .before .loop .inv .5) (c .before .before .place-good2 .ensures (not-false _ (c .before .if4 .left)))))
+loop-again c =
+    let s = c .before .before .before .before .before .before .before .before .before .before .before .before .before .before .before .before .before .before .before .args .s .now in
+    let next = good-is (NextTier s (c .before .before .before .before .before .before .before .before .before .before .loop .i)) (c .before .before .before .before .next .given .1) (c .before .before .before .before .before .before .next-tier .ensures) in
+    let here = c .before .before .place-good2 .ensures (not-false _ (c .before .if4 .left)) in
+    let len = len-is s (c .before .before .before .before .before .before .before .before .before .before .loop .i + 1) (c .get-u642 .ensures) in
+    (omega arith, omega (arith, len, here .slab .small), joins-more s (c .before .before .before .before .before .before .before .before .before .before .loop .i) (c .before .before .before .before .before .before .before .before .before .before .loop .inv .2) (next .joined .joins), next .only, next .joined .known, rw len (placed-more s (c .before .before .before .before .before .before .before .before .before .before .loop .i + 1) (c .before .before .before .before .before .before .before .before .before .before .loop .at) (c .before .before .before .before .before .before .before .before .before .before .loop .inv .5) here))
 
 returns-7 : tie.Need-returns-7 Inv-loop μ-loop
-returns-7 c = λ e z. subst (All (c .before .before .before .before .before .before .before .before .before .before .args .s .now) (c .before .before .before .before .before .before .before .before .before .before .args .n)) (eq-is (c .before .loop .at) (c .before .before .before .before .before .before .before .before .before .before .args .total) e) (all-are (c .before .before .before .before .before .before .before .before .before .before .args .s .now) (c .before .before .before .before .before .before .before .before .before .before .args .n) (c .before .loop .i) (c .before .loop .at) ((good-is (Begun (c .before .before .before .before .before .before .before .before .before .before .args .s .now) 0 0) (c .before .before .before .before .before .before .first .given .1) (c .before .before .before .before .before .before .before .before .starts .ensures)) .start) (c .before .loop .inv .2) (omega arith) (only-ends (c .before .before .before .before .before .before .before .before .before .before .args .s .now) (c .before .loop .i) (c .before .loop .inv .3) z) (c .before .loop .inv .5))
+returns-7 c =
+    let s = c .before .before .before .before .before .before .before .before .before .before .args .s .now in
+    let begun = good-is (Begun s 0 0) (c .before .before .before .before .before .before .first .given .1) (c .before .before .before .before .before .before .before .before .starts .ensures) in
+    λ e z. subst (All s (c .before .before .before .before .before .before .before .before .before .before .args .n)) (eq-is (c .before .loop .at) (c .before .before .before .before .before .before .before .before .before .before .args .total) e) (all-are s (c .before .before .before .before .before .before .before .before .before .before .args .n) (c .before .loop .i) (c .before .loop .at) (begun .start) (c .before .loop .inv .2) (omega arith) (only-ends s (c .before .loop .i) (c .before .loop .inv .3) z) (c .before .loop .inv .5))
 
 pub few-good-spec : {M : Type 1} → statement M
 few-good-spec =
@@ -135,11 +165,11 @@ few-good-spec =
     add-place-good
     place-good-requires-2
     returns-6
+    add-i
     mul-get-u64
     add-get-u64
     get-u64-requires-2
     add-at-3
-    add-i
     loop-less
     loop-again
     returns-7)

@@ -4,7 +4,6 @@ use native.Mathlib.Nat.{mul-le-mul-right}
 use Rattle.laws.specs.Tests.{lt-is}
 use Rattle.quick.proofs.Laws.{product-low, brief-low}
 use Prim.Native.Nat.{_/_, _≤_}
-use borrow.Author.Needs.{needs}
 use Rattle.quick.proofs.is_low.Statement.{statement}
 use Rattle.quick.proofs.is_low.Tie as tie
 

@@ -1,6 +1,8 @@
 -- `quick::joins` meets its contract: the next tier by its word, or the first row of the next schema. Assumes nothing.
 use native.Mathlib.Omega.{arith}
-use Rattle.quick.proofs.Laws.{schema-low, tier-low, stepped-start, stepped-tier}
+use Rattle.quick.specs.Seen.{Begun, Followed, Joined, good-map}
+use Rattle.quick.proofs.Laws.{schema-low, tier-low, next-start, next-tier}
+use Prim.Native.Nat.{_+_}
 use borrow.Author.Needs.{needs}
 use Rattle.quick.proofs.joins.Statement.{statement}
 use Rattle.quick.proofs.joins.Tie as tie
@@ -27,7 +29,10 @@ follows-requires : tie.Need-follows-requires
 follows-requires c κs = (c .before .before .before .before .pre .0, c .before .before .before .before .pre .3)
 
 returns : tie.Need-returns
-returns c = stepped-tier (c .before .before .before .before .before .args .s .now) (c .before .before .before .before .before .args .i) (c .before .before .before .pair .result) (c .before .before .pair2 .result) (c .follows .result) (c .before .before .before .pair .ensures) (c .before .before .pair2 .ensures) (c .before .if1 .taken) (c .follows .ensures)
+returns c =
+    let s = c .before .before .before .before .before .args .s .now in
+    let i = c .before .before .before .before .before .args .i in
+    good-map (Followed s i) (Joined s i) (λ q. next-tier s i (c .before .before .before .pair .ensures) (c .before .before .pair2 .ensures) (c .before .if1 .taken)) (c .follows .result) (c .follows .ensures)
 
 get-u32-requires : tie.Need-get-u32-requires
 get-u32-requires c κs = search needs
@@ -42,7 +47,10 @@ starts-requires : tie.Need-starts-requires
 starts-requires c κs = (omega (arith, c .before .before .before .before .before .pre .0), omega (arith, c .get-u32 .ensures .0, schema-low (c .before .before .before .before .before .pre .2), c .before .before .before .before .before .pre .1))
 
 returns-2 : tie.Need-returns-2
-returns-2 c = stepped-start (c .before .before .before .before .before .before .args .s .now) (c .before .before .before .before .before .before .args .i) (c .before .get-u32 .result) (c .starts .result) (c .before .get-u32 .ensures .0) (c .starts .ensures)
+returns-2 c =
+    let s = c .before .before .before .before .before .before .args .s .now in
+    let i = c .before .before .before .before .before .before .args .i in
+    good-map (Begun s (i + 1) (c .before .get-u32 .result + 1)) (Joined s i) (λ q. next-start s i (c .before .get-u32 .ensures .0)) (c .starts .result) (c .starts .ensures)
 
 pub joins-spec : {M : Type 1} → statement M
 joins-spec =

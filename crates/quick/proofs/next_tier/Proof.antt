@@ -1,5 +1,6 @@
 -- `quick::next_tier` meets its contract: schema and tier by one word. Assumes nothing.
-use Rattle.quick.proofs.Laws.{stepped-only}
+use Rattle.quick.specs.Seen.{Followed, NextTier, good-map}
+use Rattle.quick.proofs.Laws.{next-only}
 use borrow.Author.Needs.{needs}
 use Rattle.quick.proofs.next_tier.Statement.{statement}
 use Rattle.quick.proofs.next_tier.Tie as tie
@@ -26,7 +27,10 @@ follows-requires : tie.Need-follows-requires
 follows-requires c κs = (c .before .before .before .pre .0, c .before .before .before .pre .3)
 
 returns-2 : tie.Need-returns-2
-returns-2 c = stepped-only (c .before .before .before .before .args .s .now) (c .before .before .before .before .args .i) (c .before .before .pair .result) (c .follows .result) (c .before .before .before .before .pre .2) (c .before .before .pair .ensures) (c .before .if1 .left) (c .follows .ensures)
+returns-2 c =
+    let s = c .before .before .before .before .args .s .now in
+    let i = c .before .before .before .before .args .i in
+    good-map (Followed s i) (NextTier s i) (λ q. next-only s i (c .before .before .before .before .pre .2) (c .before .before .pair .ensures) (c .before .if1 .left)) (c .follows .result) (c .follows .ensures)
 
 pub next-tier-spec : {M : Type 1} → statement M
 next-tier-spec =
