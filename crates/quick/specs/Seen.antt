@@ -129,6 +129,11 @@ pub record Here (s : List ℕ) (i at : ℕ) : Type 0 where
   pub offset-is : rowAt s i .offset ≡ at
   pub slab : Slab s at (rowAt s i) (rowAt s i .series) (rowAt s i .hash)
 
+-- row 0 is the first of schema 0, with its slab at `at`, and shares p
+pub record Begins (s : List ℕ) (at : ℕ) (p : Shared) : Type 0 where
+  pub begun : Begun s 0 0 p
+  pub here : Here s 0 at
+
 -- eight bytes are two numbers side by side
 pub get-pair : (s : List ℕ) (o : ℕ) → o + 4 ≤ length s → get 8 s o ≡ get 4 s o + 4_294_967_296 * get 4 s (o + 4)
 get-pair s o h =

@@ -8,7 +8,7 @@ ghost use mathlib.Core.Bool.{true};
 ghost use Prim.Native.Nat.{_+_, _*_, _<_, _≤_, _^_};
 ghost use lib.ListN.{length};
 ghost use Rattle.model.specs.Image.{schemas, rowCount, openCheck};
-ghost use Rattle.quick.specs.Seen.{PairAt, Head, Known, IfGood, Begun, Followed, Joined, Only, NextTier, Slotted, Timed, Slab, Here, Early, Ends, All};
+ghost use Rattle.quick.specs.Seen.{PairAt, Head, Known, IfGood, Begun, Followed, Joined, Only, NextTier, Slotted, Timed, Slab, Here, Begins, Early, Ends, All};
 
 // Two u32 that stand side by side, as one number: the second counts 2^32. One load; the first is read by itself for its bound alone.
 fn pair(s: &[u8], at: usize) -> u64
@@ -213,6 +213,22 @@ fn place_good(s: &[u8], i: usize, at: usize, p: Shared, most: u64) -> bool
     slab_good(s, at, r, p, most)
 }
 
+// The first of n rows is the first of schema 0, and its slab, of fewer than `most` slots, stands right behind them.
+fn begins(s: &[u8], n: usize, most: u64) -> Step
+    requires { ⌜ (n ≤ 32) × (96 + 64 * n ≤ length (now s)) × (most ≤ 134217728) ⌝ }
+    ensures { λ r. ⌜ IfGood (Begins (now (s .entry)) (32 + 64 * n)) r ⌝ }
+{
+    let first = starts(s, 0, 0);
+    let Step::Good(p) = first else {
+        return Step::Bad;
+    };
+    let here = place_good(s, 0, 32 + 64 * n, p, most);
+    if !here {
+        return Step::Bad;
+    }
+    Step::Good(p)
+}
+
 // The last row, i, is of the last schema.
 fn ends(s: &[u8], i: usize) -> bool
     requires { ⌜ 32 + 64 * i + 64 ≤ length (now s) ⌝ }
@@ -232,14 +248,14 @@ fn rows_good(s: &[u8], n: usize, total: usize) -> bool
     ensures { λ b. ⌜ (b ≡ true → All (now (s .entry)) n total) ⌝ }
 {
     let last = total - 64;
-    let first = starts(s, 0, 0);
+    let first = begins(s, n, 0x800_0000);
     let Step::Good(begin) = first else {
         return false;
     };
     let mut p = begin;
     let mut at = 32 + 64 * n;
     let mut i = 0;
-    let mut here = place_good(s, 0, at, p, 0x800_0000);
+    let mut here = true;
     while here {
         at += field::get_u64(s, 72 + 64 * i) as usize;
         if i + 1 == n {
@@ -266,17 +282,12 @@ fn few_good(s: &[u8], n: usize, total: usize) -> bool
     requires { ⌜ (0 < n) × (n ≤ 4) × (n ≡ rowCount (now s)) × (96 + 64 * n ≤ total) × (total ≤ length (now s)) × (total ≤ 1099511627776) ⌝ }
     ensures { λ b. ⌜ (b ≡ true → schemas (now (s .entry)) ≡ 1 → All (now (s .entry)) n total) ⌝ }
 {
-    let first = starts(s, 0, 0);
+    let first = begins(s, n, 0x10_0000);
     let Step::Good(begin) = first else {
         return false;
     };
     let mut p = begin;
-    let mut at = 32 + 64 * n;
-    let begun = place_good(s, 0, at, p, 0x10_0000);
-    if !begun {
-        return false;
-    }
-    at += field::get_u64(s, 72) as usize;
+    let mut at = 32 + 64 * n + field::get_u64(s, 72) as usize;
     let mut i = 0;
     while i < 3 {
         if i + 1 == n {

@@ -3,22 +3,22 @@ use mathlib.Core.Bool.{false≢true}
 use native.Mathlib.Omega.{arith}
 use mathlib.Core.Path.{subst}
 use Rattle.laws.specs.Tests.{eq-is}
-use Rattle.quick.specs.Seen.{Known, good-is, Begun, Only, NextTier, only-first, only-ends, JoinsTo, joins-none, joins-more, Placed, placed-none, placed-more, All, all-are}
+use Rattle.quick.specs.Seen.{Known, good-is, Begins, Only, NextTier, only-first, only-ends, JoinsTo, joins-none, joins-more, Placed, placed-none, placed-more, All, all-are}
 use Rattle.quick.proofs.Laws.{len-is}
-use Prim.Native.Nat.{_+_, _-_, _^_, _<_, _≤_}
+use Prim.Native.Nat.{_+_, _-_, _*_, _^_, _<_, _≤_}
 use borrow.Author.Needs.{needs}
 use borrow.Author.Tests.{not-false}
 use Rattle.quick.proofs.few_good.Statement.{statement}
 use Rattle.quick.proofs.few_good.Tie as tie
 
 abbrev Inv-loop : tie.InvT-loop
-Inv-loop s n total p₀ at₀ begun i₀ p at i = (i < n) × (at ≤ 2 ^ 63 + 2 ^ 40) × JoinsTo s i × Only s i × Known s i p × Placed s (i + 1) at
+Inv-loop s n total p₀ at₀ i₀ p at i = (i < n) × (at ≤ 2 ^ 63 + 2 ^ 40) × JoinsTo s i × Only s i × Known s i p × Placed s (i + 1) at
 
 abbrev μ-loop : tie.MeasureT-loop
-μ-loop s n total p₀ at₀ begun i₀ p at i = 3 - i
+μ-loop s n total p₀ at₀ i₀ p at i = 3 - i
 
-starts-requires : tie.Need-starts-requires Inv-loop μ-loop
-starts-requires c κs = (omega arith, omega arith)
+begins-requires : tie.Need-begins-requires Inv-loop μ-loop
+begins-requires c κs = (omega arith, omega arith, omega arith)
 
 enum-known-first : tie.Need-enum-known-first Inv-loop μ-loop
 enum-known-first c = search needs
@@ -35,47 +35,37 @@ mul-at c = omega arith
 add-at : tie.Need-add-at Inv-loop μ-loop
 add-at c = omega arith
 
-place-good-requires : tie.Need-place-good-requires Inv-loop μ-loop
-place-good-requires c κs =
-    let s = c .before .before .before .before .before .args .s .now in
-    let begun = good-is (Begun s 0 0) (c .before .first .given .1) (c .before .before .before .starts .ensures) in
-    (omega arith, omega arith, begun .known, omega arith)
-
-returns-2 : tie.Need-returns-2 Inv-loop μ-loop
-returns-2 c = λ e. absurd (false≢true e)
-
 get-u64-requires : tie.Need-get-u64-requires Inv-loop μ-loop
 get-u64-requires c κs = omega arith
 
 add-at-2 : tie.Need-add-at-2 Inv-loop μ-loop
 add-at-2 c =
-    let s = c .before .before .before .before .before .before .before .before .args .s .now in
-    let here = c .before .before .place-good .ensures (not-false _ (c .before .if1 .left)) in
+    let s = c .before .before .before .before .before .before .args .s .now in
+    let first = good-is (Begins s (32 + 64 * c .before .before .before .before .before .before .args .n)) (c .before .before .first .given .1) (c .before .before .before .before .begins .ensures) in
     let len = len-is s 0 (c .get-u64 .ensures) in
-    omega (arith, len, here .slab .small)
+    omega (arith, len, first .here .slab .small)
 
 loop-holds : tie.Need-loop-holds Inv-loop μ-loop
 loop-holds c =
-    let s = c .before .before .before .before .before .before .before .before .args .s .now in
-    let begun = good-is (Begun s 0 0) (c .before .before .before .before .first .given .1) (c .before .before .before .before .before .before .starts .ensures) in
-    let here = c .before .before .place-good .ensures (not-false _ (c .before .if1 .left)) in
+    let s = c .before .before .before .before .before .before .args .s .now in
+    let first = good-is (Begins s (32 + 64 * c .before .before .before .before .before .before .args .n)) (c .before .before .first .given .1) (c .before .before .before .before .begins .ensures) in
     let len = len-is s 0 (c .get-u64 .ensures) in
-    (omega arith, omega (arith, len, here .slab .small), joins-none s, only-first s (begun .start), begun .known, rw len (placed-more s 0 _ (rw (c .before .before .before .before .before .before .before .before .pre .2) (placed-none s)) here))
+    (omega arith, omega (arith, len, first .here .slab .small), joins-none s, only-first s (first .begun .start), first .begun .known, rw len (placed-more s 0 _ (rw (c .before .before .before .before .before .before .pre .2) (placed-none s)) (first .here)))
+
+add-if1 : tie.Need-add-if1 Inv-loop μ-loop
+add-if1 c = omega arith
+
+returns-2 : tie.Need-returns-2 Inv-loop μ-loop
+returns-2 c =
+    let s = c .before .before .before .before .before .before .before .before .before .args .s .now in
+    let first = good-is (Begins s (32 + 64 * c .before .before .before .before .before .before .before .before .before .args .n)) (c .before .before .before .before .before .first .given .1) (c .before .before .before .before .before .before .before .begins .ensures) in
+    λ e z. subst (All s (c .before .before .before .before .before .before .before .before .before .args .n)) (eq-is (c .before .before .loop .at) (c .before .before .before .before .before .before .before .before .before .args .total) e) (all-are s (c .before .before .before .before .before .before .before .before .before .args .n) (c .before .before .loop .i) (c .before .before .loop .at) (first .begun .start) (c .before .before .loop .inv .2) (omega arith) (only-ends s (c .before .before .loop .i) (c .before .before .loop .inv .3) z) (c .before .before .loop .inv .5))
 
 add-if2 : tie.Need-add-if2 Inv-loop μ-loop
-add-if2 c = omega arith
+add-if2 c = omega (arith, c .before .before .loop .inv .1)
 
 returns-3 : tie.Need-returns-3 Inv-loop μ-loop
-returns-3 c =
-    let s = c .before .before .before .before .before .before .before .before .before .before .before .args .s .now in
-    let begun = good-is (Begun s 0 0) (c .before .before .before .before .before .before .before .first .given .1) (c .before .before .before .before .before .before .before .before .before .starts .ensures) in
-    λ e z. subst (All s (c .before .before .before .before .before .before .before .before .before .before .before .args .n)) (eq-is (c .before .before .loop .at) (c .before .before .before .before .before .before .before .before .before .before .before .args .total) e) (all-are s (c .before .before .before .before .before .before .before .before .before .before .before .args .n) (c .before .before .loop .i) (c .before .before .loop .at) (begun .start) (c .before .before .loop .inv .2) (omega arith) (only-ends s (c .before .before .loop .i) (c .before .before .loop .inv .3) z) (c .before .before .loop .inv .5))
-
-add-if3 : tie.Need-add-if3 Inv-loop μ-loop
-add-if3 c = omega (arith, c .before .before .loop .inv .1)
-
-returns-4 : tie.Need-returns-4 Inv-loop μ-loop
-returns-4 c = λ e. absurd (false≢true e)
+returns-3 c = λ e. absurd (false≢true e)
 
 next-tier-requires : tie.Need-next-tier-requires Inv-loop μ-loop
 next-tier-requires c κs = (omega arith, omega arith, c .before .before .before .loop .inv .3, c .before .before .before .loop .inv .4)
@@ -86,20 +76,20 @@ enum-known-next c = search needs
 enum-told-2 : tie.Need-enum-told-2 Inv-loop μ-loop
 enum-told-2 c = search needs
 
-returns-5 : tie.Need-returns-5 Inv-loop μ-loop
-returns-5 c = λ e. absurd (false≢true e)
+returns-4 : tie.Need-returns-4 Inv-loop μ-loop
+returns-4 c = λ e. absurd (false≢true e)
 
 add-place-good : tie.Need-add-place-good Inv-loop μ-loop
 add-place-good c = omega arith
 
-place-good-requires-2 : tie.Need-place-good-requires-2 Inv-loop μ-loop
-place-good-requires-2 c κs =
-    let s = c .before .before .before .before .before .before .before .before .before .before .before .before .before .before .before .before .args .s .now in
+place-good-requires : tie.Need-place-good-requires Inv-loop μ-loop
+place-good-requires c κs =
+    let s = c .before .before .before .before .before .before .before .before .before .before .before .before .before .before .args .s .now in
     let next = good-is (NextTier s (c .before .before .before .before .before .before .before .loop .i)) (c .before .next .given .1) (c .before .before .before .next-tier .ensures) in
     (omega arith, omega arith, next .joined .known, omega arith)
 
-returns-6 : tie.Need-returns-6 Inv-loop μ-loop
-returns-6 c = λ e. absurd (false≢true e)
+returns-5 : tie.Need-returns-5 Inv-loop μ-loop
+returns-5 c = λ e. absurd (false≢true e)
 
 add-i : tie.Need-add-i Inv-loop μ-loop
 add-i c = omega arith
@@ -115,8 +105,8 @@ get-u64-requires-2 c κs = omega arith
 
 add-at-3 : tie.Need-add-at-3 Inv-loop μ-loop
 add-at-3 c =
-    let s = c .before .before .before .before .before .before .before .before .before .before .before .before .before .before .before .before .before .before .before .args .s .now in
-    let here = c .before .before .place-good2 .ensures (not-false _ (c .before .if4 .left)) in
+    let s = c .before .before .before .before .before .before .before .before .before .before .before .before .before .before .before .before .before .args .s .now in
+    let here = c .before .before .place-good .ensures (not-false _ (c .before .if3 .left)) in
     let len = len-is s (c .before .before .before .before .before .before .before .before .before .before .loop .i + 1) (c .get-u642 .ensures) in
     omega (arith, len, here .slab .small)
 
@@ -125,17 +115,17 @@ loop-less c = omega arith
 
 loop-again : tie.Need-loop-again Inv-loop μ-loop
 loop-again c =
-    let s = c .before .before .before .before .before .before .before .before .before .before .before .before .before .before .before .before .before .before .before .args .s .now in
+    let s = c .before .before .before .before .before .before .before .before .before .before .before .before .before .before .before .before .before .args .s .now in
     let next = good-is (NextTier s (c .before .before .before .before .before .before .before .before .before .before .loop .i)) (c .before .before .before .before .next .given .1) (c .before .before .before .before .before .before .next-tier .ensures) in
-    let here = c .before .before .place-good2 .ensures (not-false _ (c .before .if4 .left)) in
+    let here = c .before .before .place-good .ensures (not-false _ (c .before .if3 .left)) in
     let len = len-is s (c .before .before .before .before .before .before .before .before .before .before .loop .i + 1) (c .get-u642 .ensures) in
     (omega arith, omega (arith, len, here .slab .small), joins-more s (c .before .before .before .before .before .before .before .before .before .before .loop .i) (c .before .before .before .before .before .before .before .before .before .before .loop .inv .2) (next .joined .joins), next .only, next .joined .known, rw len (placed-more s (c .before .before .before .before .before .before .before .before .before .before .loop .i + 1) (c .before .before .before .before .before .before .before .before .before .before .loop .at) (c .before .before .before .before .before .before .before .before .before .before .loop .inv .5) here))
 
-returns-7 : tie.Need-returns-7 Inv-loop μ-loop
-returns-7 c =
-    let s = c .before .before .before .before .before .before .before .before .before .before .args .s .now in
-    let begun = good-is (Begun s 0 0) (c .before .before .before .before .before .before .first .given .1) (c .before .before .before .before .before .before .before .before .starts .ensures) in
-    λ e z. subst (All s (c .before .before .before .before .before .before .before .before .before .before .args .n)) (eq-is (c .before .loop .at) (c .before .before .before .before .before .before .before .before .before .before .args .total) e) (all-are s (c .before .before .before .before .before .before .before .before .before .before .args .n) (c .before .loop .i) (c .before .loop .at) (begun .start) (c .before .loop .inv .2) (omega arith) (only-ends s (c .before .loop .i) (c .before .loop .inv .3) z) (c .before .loop .inv .5))
+returns-6 : tie.Need-returns-6 Inv-loop μ-loop
+returns-6 c =
+    let s = c .before .before .before .before .before .before .before .before .args .s .now in
+    let first = good-is (Begins s (32 + 64 * c .before .before .before .before .before .before .before .before .args .n)) (c .before .before .before .before .first .given .1) (c .before .before .before .before .before .before .begins .ensures) in
+    λ e z. subst (All s (c .before .before .before .before .before .before .before .before .args .n)) (eq-is (c .before .loop .at) (c .before .before .before .before .before .before .before .before .args .total) e) (all-are s (c .before .before .before .before .before .before .before .before .args .n) (c .before .loop .i) (c .before .loop .at) (first .begun .start) (c .before .loop .inv .2) (omega arith) (only-ends s (c .before .loop .i) (c .before .loop .inv .3) z) (c .before .loop .inv .5))
 
 pub few-good-spec : {M : Type 1} → statement M
 few-good-spec =
@@ -143,28 +133,26 @@ few-good-spec =
     (tie.spec
     Inv-loop
     μ-loop
-    starts-requires
+    begins-requires
     enum-known-first
     enum-told
     returns
     mul-at
     add-at
-    place-good-requires
-    returns-2
     get-u64-requires
     add-at-2
     loop-holds
+    add-if1
+    returns-2
     add-if2
     returns-3
-    add-if3
-    returns-4
     next-tier-requires
     enum-known-next
     enum-told-2
-    returns-5
+    returns-4
     add-place-good
-    place-good-requires-2
-    returns-6
+    place-good-requires
+    returns-5
     add-i
     mul-get-u64
     add-get-u64
@@ -172,4 +160,4 @@ few-good-spec =
     add-at-3
     loop-less
     loop-again
-    returns-7)
+    returns-6)

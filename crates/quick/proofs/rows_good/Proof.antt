@@ -1,10 +1,9 @@
 -- `quick::rows_good` meets its contract. The loop's invariant: each row up to row i joins the row before it, the slabs before row i's end at `at`, and row i is good if `here` says so. Assumes nothing.
-use mathlib.Core.Bool.{false≢true}
+use mathlib.Core.Bool.{true, false≢true}
 use native.Mathlib.Omega.{arith}
-use mathlib.Core.Path.{_≡_, refl, sym, _∙_, subst}
-use mathlib.Core.Bool.{true}
+use mathlib.Core.Path.{_≡_, subst}
 use Rattle.laws.specs.Tests.{and-left, and-right, eq-is}
-use Rattle.quick.specs.Seen.{Known, good-is, Begun, Joined, Early, Here, JoinsTo, joins-none, joins-more, early-first, early-more, Placed, placed-none, placed-more, All, all-are}
+use Rattle.quick.specs.Seen.{Known, good-is, Begins, Joined, Early, Here, JoinsTo, joins-none, joins-more, early-first, early-more, Placed, placed-none, placed-more, All, all-are}
 use Rattle.quick.proofs.Laws.{len-is}
 use Prim.Native.Nat.{_+_, _-_, _*_, _<_, _≤_}
 use borrow.Author.Needs.{needs}
@@ -20,8 +19,8 @@ abbrev μ-loop : tie.MeasureT-loop
 sub-last : tie.Need-sub-last Inv-loop μ-loop
 sub-last c = omega arith
 
-starts-requires : tie.Need-starts-requires Inv-loop μ-loop
-starts-requires c κs = (omega arith, omega arith)
+begins-requires : tie.Need-begins-requires Inv-loop μ-loop
+begins-requires c κs = (omega arith, omega arith, omega arith)
 
 enum-known-first : tie.Need-enum-known-first Inv-loop μ-loop
 enum-known-first c = search needs
@@ -38,11 +37,11 @@ mul-at c = omega arith
 add-at : tie.Need-add-at Inv-loop μ-loop
 add-at c = omega arith
 
-place-good-requires : tie.Need-place-good-requires Inv-loop μ-loop
-place-good-requires c κs = (omega arith, omega arith, (good-is (Begun (c .before .before .before .before .before .args .s .now) 0 0) (c .before .first .given .1) (c .before .before .before .starts .ensures)) .known, omega arith)
-
 loop-holds : tie.Need-loop-holds Inv-loop μ-loop
-loop-holds c = (omega arith, omega arith, joins-none (c .before .before .before .before .before .before .args .s .now), early-first (c .before .before .before .before .before .before .args .s .now) ((good-is (Begun (c .before .before .before .before .before .before .args .s .now) 0 0) (c .before .before .first .given .1) (c .before .before .before .before .starts .ensures)) .start), (good-is (Begun (c .before .before .before .before .before .before .args .s .now) 0 0) (c .before .before .first .given .1) (c .before .before .before .before .starts .ensures)) .known, rw (c .before .before .before .before .before .before .pre .2) (placed-none (c .before .before .before .before .before .before .args .s .now)), c .place-good .ensures)
+loop-holds c =
+    let s = c .before .before .before .before .before .args .s .now in
+    let first = good-is (Begins s (32 + 64 * c .before .before .before .before .before .args .n)) (c .before .first .given .1) (c .before .before .before .begins .ensures) in
+    (omega arith, omega arith, joins-none s, early-first s (first .begun .start), first .begun .known, rw (c .before .before .before .before .before .pre .2) (placed-none s), λ _. first .here)
 
 mul-get-u64 : tie.Need-mul-get-u64 Inv-loop μ-loop
 mul-get-u64 c = omega arith
@@ -54,7 +53,11 @@ get-u64-requires : tie.Need-get-u64-requires Inv-loop μ-loop
 get-u64-requires c κs = omega arith
 
 add-at-2 : tie.Need-add-at-2 Inv-loop μ-loop
-add-at-2 c = omega (arith, len-is (c .before .before .before .before .before .before .before .before .before .args .s .now) (c .before .before .loop .i) (c .get-u64 .ensures), (c .before .before .loop .inv .6 (c .before .loop-test .taken)) .slab .small)
+add-at-2 c =
+    let s = c .before .before .before .before .before .before .before .before .args .s .now in
+    let len = len-is s (c .before .before .loop .i) (c .get-u64 .ensures) in
+    let here = c .before .before .loop .inv .6 (c .before .loop-test .taken) in
+    omega (arith, len, here .slab .small)
 
 add-if1 : tie.Need-add-if1 Inv-loop μ-loop
 add-if1 c = omega arith
@@ -64,7 +67,12 @@ ends-requires c κs = omega arith
 
 returns-2 : tie.Need-returns-2 Inv-loop μ-loop
 returns-2 c =
-    λ e. subst (All (c .before .before .before .before .before .before .before .before .before .before .before .args .s .now) (c .before .before .before .before .before .before .before .before .before .before .before .args .n)) (eq-is (c .before .before .before .before .loop .at + c .before .before .get-u64 .result) (c .before .before .before .before .before .before .before .before .before .before .before .args .total) (and-right (c .ends .result) _ e)) (all-are (c .before .before .before .before .before .before .before .before .before .before .before .args .s .now) (c .before .before .before .before .before .before .before .before .before .before .before .args .n) (c .before .before .before .before .loop .i) (c .before .before .before .before .loop .at + c .before .before .get-u64 .result) ((good-is (Begun (c .before .before .before .before .before .before .before .before .before .before .before .args .s .now) 0 0) (c .before .before .before .before .before .before .before .first .given .1) (c .before .before .before .before .before .before .before .before .before .starts .ensures)) .start) (c .before .before .before .before .loop .inv .2) (omega arith) (c .ends .ensures (and-left (c .ends .result) _ e)) (rw (len-is (c .before .before .before .before .before .before .before .before .before .before .before .args .s .now) (c .before .before .before .before .loop .i) (c .before .before .get-u64 .ensures)) (placed-more (c .before .before .before .before .before .before .before .before .before .before .before .args .s .now) (c .before .before .before .before .loop .i) (c .before .before .before .before .loop .at) (c .before .before .before .before .loop .inv .5) (c .before .before .before .before .loop .inv .6 (c .before .before .before .loop-test .taken)))))
+    let s = c .before .before .before .before .before .before .before .before .before .before .args .s .now in
+    let first = good-is (Begins s (32 + 64 * c .before .before .before .before .before .before .before .before .before .before .args .n)) (c .before .before .before .before .before .before .first .given .1) (c .before .before .before .before .before .before .before .before .begins .ensures) in
+    let len = len-is s (c .before .before .before .before .loop .i) (c .before .before .get-u64 .ensures) in
+    let here = c .before .before .before .before .loop .inv .6 (c .before .before .before .loop-test .taken) in
+    let end = c .before .before .before .before .loop .at + c .before .before .get-u64 .result in
+    λ e. subst (All s (c .before .before .before .before .before .before .before .before .before .before .args .n)) (eq-is end (c .before .before .before .before .before .before .before .before .before .before .args .total) (and-right (c .ends .result) _ e)) (all-are s (c .before .before .before .before .before .before .before .before .before .before .args .n) (c .before .before .before .before .loop .i) end (first .begun .start) (c .before .before .before .before .loop .inv .2) (omega arith) (c .ends .ensures (and-left (c .ends .result) _ e)) (rw len (placed-more s (c .before .before .before .before .loop .i) (c .before .before .before .before .loop .at) (c .before .before .before .before .loop .inv .5) here)))
 
 returns-3 : tie.Need-returns-3 Inv-loop μ-loop
 returns-3 c = λ e. absurd (false≢true e)
@@ -84,14 +92,22 @@ returns-4 c = λ e. absurd (false≢true e)
 add-i : tie.Need-add-i Inv-loop μ-loop
 add-i c = omega arith
 
-place-good-requires-2 : tie.Need-place-good-requires-2 Inv-loop μ-loop
-place-good-requires-2 c κs = (omega arith, omega arith, (good-is (Joined (c .before .before .before .before .before .before .before .before .before .before .before .before .before .before .before .args .s .now) (c .before .before .before .before .before .before .before .before .loop .i)) (c .before .next .given .1) (c .before .before .before .joins .ensures)) .known, omega arith)
+place-good-requires : tie.Need-place-good-requires Inv-loop μ-loop
+place-good-requires c κs =
+    let s = c .before .before .before .before .before .before .before .before .before .before .before .before .before .before .args .s .now in
+    let next = good-is (Joined s (c .before .before .before .before .before .before .before .before .loop .i)) (c .before .next .given .1) (c .before .before .before .joins .ensures) in
+    (omega arith, omega arith, next .known, omega arith)
 
 loop-less : tie.Need-loop-less Inv-loop μ-loop
 loop-less c = omega arith
 
 loop-again : tie.Need-loop-again Inv-loop μ-loop
-loop-again c = (omega arith, omega arith, joins-more (c .before .before .before .before .before .before .before .before .before .before .before .before .before .before .before .before .args .s .now) (c .before .before .before .before .before .before .before .before .before .loop .i) (c .before .before .before .before .before .before .before .before .before .loop .inv .2) ((good-is (Joined (c .before .before .before .before .before .before .before .before .before .before .before .before .before .before .before .before .args .s .now) (c .before .before .before .before .before .before .before .before .before .loop .i)) (c .before .before .next .given .1) (c .before .before .before .before .joins .ensures)) .joins), early-more (c .before .before .before .before .before .before .before .before .before .before .before .before .before .before .before .before .args .s .now) (c .before .before .before .before .before .before .before .before .before .loop .i) (c .before .before .before .before .before .before .before .before .before .loop .inv .3) ((good-is (Joined (c .before .before .before .before .before .before .before .before .before .before .before .before .before .before .before .before .args .s .now) (c .before .before .before .before .before .before .before .before .before .loop .i)) (c .before .before .next .given .1) (c .before .before .before .before .joins .ensures)) .joins), (good-is (Joined (c .before .before .before .before .before .before .before .before .before .before .before .before .before .before .before .before .args .s .now) (c .before .before .before .before .before .before .before .before .before .loop .i)) (c .before .before .next .given .1) (c .before .before .before .before .joins .ensures)) .known, rw (len-is (c .before .before .before .before .before .before .before .before .before .before .before .before .before .before .before .before .args .s .now) (c .before .before .before .before .before .before .before .before .before .loop .i) (c .before .before .before .before .before .before .before .get-u64 .ensures)) (placed-more (c .before .before .before .before .before .before .before .before .before .before .before .before .before .before .before .before .args .s .now) (c .before .before .before .before .before .before .before .before .before .loop .i) (c .before .before .before .before .before .before .before .before .before .loop .at) (c .before .before .before .before .before .before .before .before .before .loop .inv .5) (c .before .before .before .before .before .before .before .before .before .loop .inv .6 (c .before .before .before .before .before .before .before .before .loop-test .taken))), c .place-good2 .ensures)
+loop-again c =
+    let s = c .before .before .before .before .before .before .before .before .before .before .before .before .before .before .before .args .s .now in
+    let next = good-is (Joined s (c .before .before .before .before .before .before .before .before .before .loop .i)) (c .before .before .next .given .1) (c .before .before .before .before .joins .ensures) in
+    let len = len-is s (c .before .before .before .before .before .before .before .before .before .loop .i) (c .before .before .before .before .before .before .before .get-u64 .ensures) in
+    let here = c .before .before .before .before .before .before .before .before .before .loop .inv .6 (c .before .before .before .before .before .before .before .before .loop-test .taken) in
+    (omega arith, omega arith, joins-more s (c .before .before .before .before .before .before .before .before .before .loop .i) (c .before .before .before .before .before .before .before .before .before .loop .inv .2) (next .joins), early-more s (c .before .before .before .before .before .before .before .before .before .loop .i) (c .before .before .before .before .before .before .before .before .before .loop .inv .3) (next .joins), next .known, rw len (placed-more s (c .before .before .before .before .before .before .before .before .before .loop .i) (c .before .before .before .before .before .before .before .before .before .loop .at) (c .before .before .before .before .before .before .before .before .before .loop .inv .5) here), c .place-good .ensures)
 
 returns-5 : tie.Need-returns-5 Inv-loop μ-loop
 returns-5 c = λ e. absurd (false≢true e)
@@ -103,13 +119,12 @@ rows-good-spec =
     Inv-loop
     μ-loop
     sub-last
-    starts-requires
+    begins-requires
     enum-known-first
     enum-told
     returns
     mul-at
     add-at
-    place-good-requires
     loop-holds
     mul-get-u64
     add-get-u64
@@ -124,7 +139,7 @@ rows-good-spec =
     enum-told-2
     returns-4
     add-i
-    place-good-requires-2
+    place-good-requires
     loop-less
     loop-again
     returns-5)
