@@ -25,10 +25,10 @@ product-low n d some few h =
     let one : 1 ≤ n = omega arith in
     omega (arith, mul-le-mul-right n up, mul-le-mul-right q one)
 
--- the same of fewer than 2^20 slots, by the interval alone
-pub brief-low : (n d : ℕ) → n < 1_048_576 → d < 8_796_093_022_208 → n * d + d < 2 ^ 63
+-- the same of fewer than 2^16 slots, by the interval alone
+pub brief-low : (n d : ℕ) → n < 65_536 → d < 140_737_488_355_328 → n * d + d < 2 ^ 63
 brief-low n d few h =
-    let up : n ≤ 1_048_575 = omega arith in
+    let up : n ≤ 65_535 = omega arith in
     omega (arith, mul-le-mul-right d up)
 
 -- ---- words of rows

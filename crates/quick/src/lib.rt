@@ -136,13 +136,13 @@ fn next_tier(s: &[u8], i: usize, p: Shared) -> Step
     follows(s, i, p)
 }
 
-// n slots, fewer than `most`, of an interval hold less than 2^63 ns. Where `most` is at most 2^20 the interval alone is asked: it is below 2.4 hours.
+// n slots, fewer than `most`, of an interval hold less than 2^63 ns. Where `most` is at most 2^16 the interval alone is asked: it is below 39 hours.
 fn is_low(n: u64, most: u64, interval: u64) -> bool
     requires { ⌜ (0 < n) × (n < most) × (most ≤ 134217728) ⌝ }
     ensures { λ b. ⌜ (b ≡ true → n * interval + interval < 2 ^ 63) ⌝ }
 {
-    if most <= 0x10_0000 {
-        return interval < 0x800_0000_0000;
+    if most <= 0x1_0000 {
+        return interval < 0x8000_0000_0000;
     }
     (interval / 0x1_0000_0000) * n < 0x2000_0000
 }
@@ -276,13 +276,13 @@ fn rows_good(s: &[u8], n: usize, total: usize) -> bool
     false
 }
 
-// The n rows, at most four, are the tiers of schema 0, and their slabs stand one behind the other, up to `total`. Each has fewer than 2^20 slots and an interval
-// below 2.4 hours. How many schemas there are is the caller's to ask. The loop's turns are so few that the compiler writes them out.
+// The n rows, at most four, are the tiers of schema 0, and their slabs stand one behind the other, up to `total`. Each has fewer than 2^16 slots and an interval
+// below 39 hours. How many schemas there are is the caller's to ask. The loop's turns are so few that the compiler writes them out.
 fn few_good(s: &[u8], n: usize, total: usize) -> bool
     requires { ⌜ (0 < n) × (n ≤ 4) × (n ≡ rowCount (now s)) × (96 + 64 * n ≤ total) × (total ≤ length (now s)) × (total ≤ 1099511627776) ⌝ }
     ensures { λ b. ⌜ (b ≡ true → schemas (now (s .entry)) ≡ 1 → All (now (s .entry)) n total) ⌝ }
 {
-    let first = begins(s, n, 0x10_0000);
+    let first = begins(s, n, 0x1_0000);
     let Step::Good(begin) = first else {
         return false;
     };
@@ -301,7 +301,7 @@ fn few_good(s: &[u8], n: usize, total: usize) -> bool
             return false;
         };
         p = q;
-        let here = place_good(s, i + 1, at, p, 0x10_0000);
+        let here = place_good(s, i + 1, at, p, 0x1_0000);
         if !here {
             return false;
         }

@@ -8,7 +8,7 @@ use Rattle.quick.proofs.is_low.Statement.{statement}
 use Rattle.quick.proofs.is_low.Tie as tie
 
 returns : tie.Need-returns
-returns c = λ e. brief-low (c .before .args .n) (c .before .args .interval) (omega (arith, c .before .pre .1, c .if1 .taken)) (lt-is (c .before .args .interval) 8_796_093_022_208 e)
+returns c = λ e. brief-low (c .before .args .n) (c .before .args .interval) (omega (arith, c .before .pre .1, c .if1 .taken)) (lt-is (c .before .args .interval) 140_737_488_355_328 e)
 
 mul-result : tie.Need-mul-result
 mul-result c = let up : c .before .args .interval / 4294967296 ≤ 4_294_967_295 = omega arith in omega (arith, mul-le-mul-right (c .before .args .n) up, c .before .pre .1, c .before .pre .2)
