@@ -4,10 +4,9 @@ use Prim.Native.Nat.{ℕ}
 use mathlib.Core.Path.{_≡_, refl, _∙_, ap}
 use mathlib.Core.List.{List}
 use Rattle.model.specs.declared.Refusal.{Refusal}
-use Rattle.model.specs.declared.Refusal.the-variants.{BadImage, NoTiers, InvalidMaxSeries, InvalidTierConfig, TooManySlots, TiersNotOrdered, ConsolidationOnHighestTier, LayoutTooLarge, ShortBuffer, CorruptedSlab, InvalidHandle, InvalidValue, InvalidTimestamp, InvalidTier, InvalidTimeRange, NoConsolidationFunction}
 use Rattle.model.specs.declared.Outcome.{Outcome}
 use Rattle.model.specs.declared.Outcome.the-variants as O
-use Rattle.model.specs.Words.{numberOf, outcomeNo}
+use Rattle.model.specs.Words.{numberOf, number-pos, outcomeNo}
 use Rattle.model.specs.Lent.{Lent}
 use Rattle.model.specs.Record.{Entry}
 use Rattle.model.specs.Store.{Call, Done, recordCall, batchCall, Reply, refused, doneOr, call, outcomeReply}
@@ -22,22 +21,7 @@ doneOf reply after = record { reply = reply; lent = after }
 
 refused-reply : (r : Refusal) → refused (numberOf r) ≡ doneOr (numberOf r)
 unfolding doneOr
-refused-reply BadImage = refl
-refused-reply NoTiers = refl
-refused-reply InvalidMaxSeries = refl
-refused-reply InvalidTierConfig = refl
-refused-reply TooManySlots = refl
-refused-reply TiersNotOrdered = refl
-refused-reply ConsolidationOnHighestTier = refl
-refused-reply LayoutTooLarge = refl
-refused-reply ShortBuffer = refl
-refused-reply CorruptedSlab = refl
-refused-reply InvalidHandle = refl
-refused-reply InvalidValue = refl
-refused-reply InvalidTimestamp = refl
-refused-reply InvalidTier = refl
-refused-reply InvalidTimeRange = refl
-refused-reply NoConsolidationFunction = refl
+refused-reply r = rw (number-pos r) refl
 
 outcome-reply : (o : Outcome) → outcomeReply o ≡ doneOr (outcomeNo o)
 unfolding doneOr outcomeReply
