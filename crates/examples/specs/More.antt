@@ -19,7 +19,7 @@ use Rattle.model.specs.Image.{planCheck, openCheck}
 use Rattle.model.specs.Ring.{Ring, write, stamp, cell}
 use Rattle.model.specs.Read.{step}
 use Rattle.model.specs.Lent.{Lent, creation, opening, ring}
-use Rattle.model.specs.Demand.{Demand-defs, within}
+use Rattle.demand.specs.Demand.{Demand-defs, within}
 use Rattle.model.specs.Record.{Entry, entries}
 use Rattle.model.specs.Store.{Call, Reply, Done, call, recordCall, batchCall, queryCall, autoCall, consolidateCall, refused, done, wrote, read}
 use Rattle.model.specs.Cases.{Cases-defs, tierOf, tier, planOf, plan, num, infinity, fresh, Question, story, reopened, window, Shown, refusal, accepted, writes, points, Result, last, value, empty, nothingFinite, Case, _gives_, Holds, ring10, two, rec, end64, everything, at, lastCall, shownOn}

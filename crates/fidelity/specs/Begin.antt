@@ -9,7 +9,7 @@ use mathlib.Core.List.{[]}
 use Rattle.model.specs.Image.{schemas, rowCount, rowAt, createCheck}
 use Rattle.model.specs.Ring.{cell}
 use Rattle.model.specs.Lent.{Lent, ring, creation}
-use Rattle.model.specs.Demand.{count}
+use Rattle.demand.specs.Demand.{count}
 use Rattle.rings.specs.Column.{Col, col-start}
 use Rattle.rings.specs.Hold.{Blank, blank-state}
 use Rattle.samples.specs.Ticks.{regular-nil, reached-nil}

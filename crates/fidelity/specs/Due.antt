@@ -7,7 +7,7 @@ use mathlib.Core.Path.{_≡_, refl, ap}
 use mathlib.Core.Bool.{true}
 use mathlib.Core.List.{List}
 use lib.Ieee.{binary64, ofBits}
-use Rattle.model.specs.Demand.{Sample, firstOf, lastOf, count, starts, closed, newestWindows, inWindow, sumOf, within, each}
+use Rattle.demand.specs.Demand.{Sample, firstOf, lastOf, count, starts, closed, newestWindows, inWindow, sumOf, within, each}
 use Rattle.laws.specs.Tests.{yes-eq}
 use Rattle.rings.specs.Hold.{firstHeld}
 use Rattle.rings.specs.Read.{pts}

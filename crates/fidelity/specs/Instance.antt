@@ -1,13 +1,13 @@
--- The concrete store of three tiers in model/specs/Instance.antt, where the promise is computed: here it follows from the theorem, for each of its tiers and
+-- The concrete store of three tiers in demand/specs/Instance.antt, where the promise is computed: here it follows from the theorem, for each of its tiers and
 -- used columns. So the theorem's supposition can be met. Assumes nothing.
 use Prim.Native.Nat.{ℕ, _<_}
 use mathlib.Core.Path.{_≡_, refl, sym, subst}
 use mathlib.Core.List.{List}
 use lib.Dec.{T, lit<}
 use Rattle.model.specs.Image.{rowCount, schemas}
-use Rattle.model.specs.Demand.{Event, samplesIn, used, supposed, finest, coarsest, created, upToRun, afterRun, samples, tierInterval, due, each, answers, ThirdDemand}
+use Rattle.demand.specs.Demand.{Event, samplesIn, used, supposed, finest, coarsest, created, upToRun, afterRun, samples, tierInterval, due, each, answers, ThirdDemand}
 use Rattle.model.specs.Cases.{plan}
-use Rattle.model.specs.Instance.{Instance-defs, tiers, story, did, accepted-plan, suited-plan, history-is, met, quiet}
+use Rattle.demand.specs.Instance.{Instance-defs, tiers, story, did, accepted-plan, suited-plan, history-is, met, quiet}
 use Rattle.fidelity.specs.Theorem.{proof}
 
 one-schema : schemas (plan tiers) ≡ 1

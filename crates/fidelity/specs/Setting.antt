@@ -7,7 +7,7 @@ use mathlib.Core.Path.{_≡_, refl, subst}
 use mathlib.Core.Bool.{true}
 use mathlib.Core.List.{List}
 use Rattle.model.specs.Image.{rowCount, rowAt}
-use Rattle.model.specs.Demand.{Sample, lastOf, count, isAt, used}
+use Rattle.demand.specs.Demand.{Sample, lastOf, count, isAt, used}
 use Rattle.samples.specs.Lists.{valueAt, value-ok}
 use Rattle.samples.specs.Ticks.{Steady}
 use Rattle.samples.specs.Supposed.{Spans}

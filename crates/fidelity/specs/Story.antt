@@ -14,7 +14,7 @@ use Rattle.model.specs.Image.{rowCount, rowAt, rowSlots, openCheck}
 use Rattle.model.specs.Lent.{Lent, creation}
 use Rattle.model.specs.Consolidate.{run}
 use Rattle.model.specs.Store.{Call, queryCall, consolidateCall, finished, call, after}
-use Rattle.model.specs.Demand.{Sample, Event, ran, eventsOf, events, samplesIn, firstOf, lastOf, ascending, count, isAt, used, endsInterval, scheduled, newestWindows, inWindow, sumOf, within, each, handedOut, Situation, finest, coarsest, created, upToRun, afterRun, history, samples}
+use Rattle.demand.specs.Demand.{Sample, Event, ran, eventsOf, events, samplesIn, firstOf, lastOf, ascending, count, isAt, used, endsInterval, scheduled, newestWindows, inWindow, sumOf, within, each, handedOut, Situation, finest, coarsest, created, upToRun, afterRun, history, samples}
 use Rattle.laws.specs.Tests.{lt-is, eq-is, and-left, and-right}
 use Rattle.rings.specs.Hold.{firstHeld}
 use Rattle.rings.specs.Read.{pts}

@@ -1,4 +1,4 @@
--- The third demand with no more supposed than its proof uses. The clauses are those of model/specs/Demand.antt, each under a name of its own, but for five that
+-- The third demand with no more supposed than its proof uses. The clauses are those of demand/specs/Demand.antt, each under a name of its own, but for five that
 -- it does not need: one schema (all rows but the first average, so no second schema has a finest tier), at least two tiers, at most four, a ratio of at least
 -- 2, a first stamp that is not 0. `ThirdDemand` follows from it (Theorem). Each clause that is left has a must-fail edit that puts a clause in its place that
 -- always holds. Assumes nothing.
@@ -8,7 +8,7 @@ use mathlib.Core.Bool.{true, false}
 use mathlib.Core.List.{List, []}
 use lib.Dec.{T, eqb}
 use Rattle.model.specs.Image.{rowCount, rowAt, rowSlots, createCheck}
-use Rattle.model.specs.Demand.{events, firstOf, ascending, all, isOffset, gapless, ticks, scheduled, used, each, Situation, finest, coarsest, afterRun, history, samples, answers, tierInterval, due}
+use Rattle.demand.specs.Demand.{events, firstOf, ascending, all, isOffset, gapless, ticks, scheduled, used, each, Situation, finest, coarsest, afterRun, history, samples, answers, tierInterval, due}
 
 -- of the plan and the slice that is lent to creation: creation accepts them; each interval is a whole number of the finer one's, at most 4,096; coarser tiers
 -- average; each ring's slots span the coarsest interval

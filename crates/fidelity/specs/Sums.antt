@@ -11,7 +11,7 @@ use lib.Dec.{leb, ltb, eqb}
 use lib.IntN.{pos}
 use lib.Ieee.{Float, nan, inf, fin, binary64, ofBits, up, down}
 use lib.Ieee.Positive.{num, den}
-use Rattle.model.specs.Demand.{Sample, count, isAt, inWindow, sumOf, wholePart}
+use Rattle.demand.specs.Demand.{Sample, count, isAt, inWindow, sumOf, wholePart}
 use Rattle.laws.specs.Tests.{yes-le, yes-lt, yes-eq, no-le, no-lt, no-eq}
 use Rattle.rings.specs.Numbers.{upto}
 use Rattle.pairs.specs.Answers.{valuesOf}

@@ -12,7 +12,7 @@ use lib.ListN.{length}
 use lib.Ieee.Bits.{is-true}
 use Rattle.model.specs.declared.Row.{Row}
 use Rattle.model.specs.Image.{rowCount, rowAt, rowsFrom, rows, rowSlots, every, createCheck}
-use Rattle.model.specs.Demand.{ratioOk, averaging, lastInterval, spanning, suited, Sample, events, firstOf, ascending, all, isOffset, gapless, ticks, scheduled, supposed, used, Situation, finest, coarsest, afterRun, history, samples}
+use Rattle.demand.specs.Demand.{ratioOk, averaging, lastInterval, spanning, suited, Sample, events, firstOf, ascending, all, isOffset, gapless, ticks, scheduled, supposed, used, Situation, finest, coarsest, afterRun, history, samples}
 use Rattle.laws.specs.Tests.{split3, le-is, eq-is}
 use Rattle.frame.specs.Rows.{every-at}
 use Rattle.samples.specs.Lists.{all-three}

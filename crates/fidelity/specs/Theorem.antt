@@ -1,6 +1,6 @@
--- The third demand, proved: `proof : ThirdDemand` for the statement in model/specs/Demand.antt, of every plan, buffer, flags and list of calls, with nothing
+-- The third demand, proved: `proof : ThirdDemand` for the statement in demand/specs/Demand.antt, of every plan, buffer, flags and list of calls, with nothing
 -- added to its supposition and nothing taken from its conclusion. It follows from `stronger`, which supposes less (Stronger). Assumes nothing.
-use Rattle.model.specs.Demand.{finest, answers, tierInterval, due, ThirdDemand}
+use Rattle.demand.specs.Demand.{finest, answers, tierInterval, due, ThirdDemand}
 use Rattle.fidelity.specs.Stronger.{StrongerDemand}
 use Rattle.fidelity.specs.Story.{samples-are, left-is, as-promised}
 use Rattle.fidelity.specs.Tests.{clauses}

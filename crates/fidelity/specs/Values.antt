@@ -15,7 +15,7 @@ use lib.Ieee.Scale.{finite}
 use Rattle.model.specs.declared.ConsolidationFn.the-variants.{Average}
 use Rattle.model.specs.Ring.{isNaN, isInfinite}
 use Rattle.model.specs.Window.{apply}
-use Rattle.model.specs.Demand.{wholeWithin, isOffset}
+use Rattle.demand.specs.Demand.{wholeWithin, isOffset}
 use Rattle.laws.specs.Tests.{and-left, and-right, eq-is, le-is}
 use Rattle.rings.specs.Numbers.{upto, length-upto}
 use Rattle.pairs.specs.Answers.{patternsOf, valuesOf, answerFor, finite-answer}

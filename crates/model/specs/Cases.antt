@@ -172,6 +172,8 @@ cases =
     -- D
     ∷ (story (ring10 4) (rec 10 1 ∷ rec 20 2 ∷ rec 30 3 ∷ rec 40 4 ∷ everything 0 ∷ [])
     gives last (true ∷ []) (0 ∷ []) (points 0 (At 10) (At 40) 0 end64 true (at 10 1 ∷ at 20 2 ∷ at 30 3 ∷ at 40 4 ∷ [])))
+    ∷ (story (ring10 4) (rec 10 1 ∷ recordCall 0 1 (num 2) 10 ∷ everything 0 ∷ [])
+    gives last (false ∷ []) (0 ∷ []) (points 0 (At 10) (At 10) 0 end64 true (at 10 1 ∷ [])))
     -- E
     ∷ (story (ring10 4) (rec 10 1 ∷ rec 20 2 ∷ rec 30 3 ∷ rec 40 4 ∷ recordCall 0 0 freshValue 15 ∷ everything 0 ∷ [])
     gives last (true ∷ []) (0 ∷ []) (points 0 (At 20) (At 15) 0 end64 true (at 20 2 ∷ at 30 3 ∷ at 40 4 ∷ [])))
@@ -192,6 +194,7 @@ cases =
     ∷ (story two (rec 30 1 ∷ rec 40 2 ∷ rec 50 6 ∷ consolidateCall ∷ []) gives last (false ∷ false ∷ []) (50 ∷ 0 ∷ []) (writes 1))
     ∷ (story two (rec 30 1 ∷ rec 40 2 ∷ rec 50 6 ∷ consolidateCall ∷ everything 1 ∷ [])
     gives last (false ∷ false ∷ []) (50 ∷ 0 ∷ []) (points 1 (At 30) (At 30) 0 end64 true (at 30 3 ∷ [])))
+    ∷ (story two (rec 30 1 ∷ rec 40 2 ∷ rec 50 6 ∷ rec 60 5 ∷ consolidateCall ∷ []) gives last (false ∷ false ∷ []) (60 ∷ 0 ∷ []) (writes 2))
     ∷ (story two (rec 30 1 ∷ rec 40 2 ∷ rec 50 6 ∷ consolidateCall ∷ rec 60 5 ∷ consolidateCall ∷ rec 70 7 ∷ rec 80 9 ∷ consolidateCall ∷ everything 1 ∷ [])
     gives last (false ∷ false ∷ []) (80 ∷ 0 ∷ []) (points 1 (At 30) (At 60) 0 end64 true (at 30 3 ∷ at 60 8 ∷ [])))
     -- K
@@ -212,4 +215,4 @@ Holds (c ∷ cs) = (result (c .ask) ≡ c .reply) × Holds cs
 
 pub every-case : Holds cases
 unfolding Cases-defs cases
-every-case = (refl, (refl, (refl, (refl, (refl, (refl, (refl, (refl, (refl, (refl, (refl, (refl, (refl, (refl, (refl, (refl, (refl, (refl, (refl, tt)))))))))))))))))))
+every-case = (refl, (refl, (refl, (refl, (refl, (refl, (refl, (refl, (refl, (refl, (refl, (refl, (refl, (refl, (refl, (refl, (refl, (refl, (refl, (refl, (refl, tt)))))))))))))))))))))

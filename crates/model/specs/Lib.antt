@@ -10,7 +10,5 @@ pub mod Record
 pub mod Query
 pub mod Consolidate
 pub mod Store
-pub mod Demand
 pub mod Cases
 pub mod Refusals
-pub mod Instance

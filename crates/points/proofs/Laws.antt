@@ -15,7 +15,7 @@ use Rattle.model.specs.Bytes.{part}
 use Rattle.model.specs.Read.{pointsFrom, pointsOf}
 use Rattle.model.specs.Query.{repliedBy}
 use Rattle.model.specs.Store.{readOr, queriedReply}
-use Rattle.model.specs.Demand.{handedOut}
+use Rattle.demand.specs.Demand.{handedOut}
 use Rattle.readers.proofs.Laws.{part-none, part-past, part-rest}
 use Rattle.fetch.specs.Stored.{storedFrom, stored}
 

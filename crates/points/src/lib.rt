@@ -5,7 +5,7 @@ ghost use Prim.Native.Nat.{_/_, min};
 ghost use lib.ListN.{length, take};
 ghost use Rattle.model.specs.Read.{pointsFrom};
 ghost use Rattle.model.specs.Store.{queriedReply};
-ghost use Rattle.model.specs.Demand.{handedOut};
+ghost use Rattle.demand.specs.Demand.{handedOut};
 ghost use Rattle.fetch.specs.Stored.{stored};
 
 // The points from a place to the reader's end, or until `out` is full. Answers how many.

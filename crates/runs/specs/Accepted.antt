@@ -11,7 +11,7 @@ use Rattle.model.specs.Ring.{isInfinite}
 use Rattle.model.specs.Lent.{Lent}
 use Rattle.model.specs.Record.{Entry, handleOk, stampOk, recordCheck, everyEntry, batchCheck}
 use Rattle.model.specs.Store.{Call, recordCall, batchCall, queryCall, autoCall, consolidateCall, call}
-use Rattle.model.specs.Demand.{Sample, took, ifAccepted, eventsOf, events, samplesIn, firstOf, lastOf}
+use Rattle.demand.specs.Demand.{Sample, took, ifAccepted, eventsOf, events, samplesIn, firstOf, lastOf}
 use Rattle.laws.specs.Tests.{and-left, and-right, lt-is}
 use Rattle.frame.specs.Checks.{first-zero, unless-zero}
 use Rattle.frame.specs.Calls.{verdict-call}

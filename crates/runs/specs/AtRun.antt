@@ -11,7 +11,7 @@ use lib.Dec.{leb, ltb, eqb}
 use Rattle.model.specs.Lent.{Lent}
 use Rattle.model.specs.Consolidate.{run}
 use Rattle.model.specs.Consolidate as C
-use Rattle.model.specs.Demand.{Sample, Event, ran, samplesIn, lastOf, ascending, count, used, scheduled, endsInterval}
+use Rattle.demand.specs.Demand.{Sample, Event, ran, samplesIn, lastOf, ascending, count, used, scheduled, endsInterval}
 use Rattle.laws.specs.Tests.{yes-lt, yes-eq, lt-is, and-left, and-right}
 use Rattle.pairs.specs.Fill.{usedBelow, one-used}
 use Rattle.samples.specs.Lists.{ofColumn, count-append, unused-none}

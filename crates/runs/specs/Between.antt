@@ -8,7 +8,7 @@ use mathlib.Core.Bool.{Bool, true}
 use mathlib.Core.List.{List}
 use Rattle.model.specs.Ring.{cell}
 use Rattle.model.specs.Lent.{Lent, row, ring}
-use Rattle.model.specs.Demand.{Sample, Event, lastOf, count, used, scheduled}
+use Rattle.demand.specs.Demand.{Sample, Event, lastOf, count, used, scheduled}
 use Rattle.rings.specs.Column.{Col}
 use Rattle.rings.specs.Hold.{State}
 use Rattle.samples.specs.Lists.{ofColumn, valueAt}

@@ -12,7 +12,7 @@ use Rattle.model.specs.Ring.{ColumnValue}
 use Rattle.model.specs.Lent.{Lent, row, tiers, rowNo}
 use Rattle.model.specs.Record.{Entry, seriesOf, handleOk, writeTo, recordCheck, recordOn, everyEntry, batchCheck, keepEntry, entriesOf, writeSome, writeSchemas, batchOn}
 use Rattle.model.specs.Store.{Call, recordCall, batchCall, queryCall, autoCall, consolidateCall, finished, call, after}
-use Rattle.model.specs.Demand.{Sample, Event, took, ifAccepted, eventsOf, events, samplesIn, lastOf, scheduled}
+use Rattle.demand.specs.Demand.{Sample, Event, took, ifAccepted, eventsOf, events, samplesIn, lastOf, scheduled}
 use Rattle.laws.specs.Tests.{and-left, and-right, lt-is}
 use Rattle.frame.specs.Tiers.{rowNo-one, series-one}
 use Rattle.samples.specs.Lists.{samples-append, samples-took}

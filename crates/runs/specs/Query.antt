@@ -12,7 +12,7 @@ use Rattle.model.specs.Lent.{Lent, tiers}
 use Rattle.model.specs.Record.{Entry, handleOk, recordCheck, recordOn, batchCheck, entriesOf, writeSome, writeSchemas, batchOn}
 use Rattle.model.specs.Query.{queryCheck, answered, queryOn, query}
 use Rattle.model.specs.Store.{Call, recordCall, batchCall, queryCall, autoCall, consolidateCall, readOr, call, after}
-use Rattle.model.specs.Demand.{Event, took, ran, ifAccepted, eventsOf, events, handedOut}
+use Rattle.demand.specs.Demand.{Event, took, ran, ifAccepted, eventsOf, events, handedOut}
 use Rattle.laws.specs.Tests.{yes-lt}
 use Rattle.rings.specs.Hold.{firstHeld}
 use Rattle.rings.specs.Read.{pts, all-points}

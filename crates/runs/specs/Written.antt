@@ -12,7 +12,7 @@ use lib.Dec.{ltb}
 use lib.Ieee.{binary64, ofBits}
 use Rattle.model.specs.Ring.{Ring, ColumnValue, cell, write}
 use Rattle.model.specs.Lent.{Lent, ring, withRing}
-use Rattle.model.specs.Demand.{Sample, Event, took, lastOf, count, isOffset, wholeWithin, scheduled}
+use Rattle.demand.specs.Demand.{Sample, Event, took, lastOf, count, isOffset, wholeWithin, scheduled}
 use Rattle.laws.specs.Tests.{no-eq, lt-is, and-left}
 use Rattle.rings.specs.Write.{Fit, Wrote, setCell, setCells, set-other}
 use Rattle.rings.specs.Sound.{some-slots}

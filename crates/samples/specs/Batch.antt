@@ -5,7 +5,7 @@ use native.Mathlib.Omega.{arith}
 use mathlib.Core.Path.{_≡_, refl, sym, ap, _∙_, subst}
 use mathlib.Core.Logic.{_⊎_, inl, inr}
 use mathlib.Core.List.{List, [], _∷_, _++_, append-assoc, append-nil}
-use Rattle.model.specs.Demand.{Sample, count}
+use Rattle.demand.specs.Demand.{Sample, count}
 use Rattle.samples.specs.Lists.{ofColumn}
 use Rattle.samples.specs.Ticks.{Steady, Regular, Reached, next-tick, regular-next, new-or-same, reached-new, reached-same}
 

@@ -8,7 +8,7 @@ use mathlib.Core.Logic.{_≢_}
 use mathlib.Core.Bool.{Bool, true, false, _&&_, cond, and-false}
 use mathlib.Core.List.{List, [], _∷_, _++_, map}
 use lib.Dec.{leb, ltb, eqb}
-use Rattle.model.specs.Demand.{Sample, Event, took, ran, samplesIn, firstOf, lastOf, ascending, all, count, isAt, used, isOffset}
+use Rattle.demand.specs.Demand.{Sample, Event, took, ran, samplesIn, firstOf, lastOf, ascending, all, count, isAt, used, isOffset}
 use Rattle.laws.specs.Tests.{yes-lt, yes-eq, no-eq, and-left, and-right, le-is, lt-is, eq-is}
 
 -- ---- counting

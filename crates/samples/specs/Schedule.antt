@@ -9,7 +9,7 @@ use mathlib.Core.Logic.{_≢_}
 use mathlib.Core.Bool.{Bool, true, false, not, _||_, cond, false≢true}
 use mathlib.Core.List.{List, [], _∷_, _++_, map, append-assoc, append-nil}
 use lib.Dec.{leb, ltb, eqb}
-use Rattle.model.specs.Demand.{Sample, Event, took, ran, samplesIn, lastOf, ascending, count, isAt, endsInterval, scheduled}
+use Rattle.demand.specs.Demand.{Sample, Event, took, ran, samplesIn, lastOf, ascending, count, isAt, endsInterval, scheduled}
 use Rattle.laws.specs.Tests.{yes-lt, yes-eq, no-eq, and-left, and-right, le-is, eq-is}
 use Rattle.samples.specs.Lists.{at-no-stamp, none-below, last-snoc, multiple}
 use Rattle.samples.specs.Batch.{AllAt}

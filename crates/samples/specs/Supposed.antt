@@ -7,7 +7,7 @@ use mathlib.Core.Path.{_≡_, refl, sym, ap, _∙_, subst}
 use mathlib.Core.Bool.{Bool, true}
 use mathlib.Core.List.{List, [], _∷_, _++_}
 use lib.Dec.{eqb}
-use Rattle.model.specs.Demand.{Sample, firstOf, lastOf, ascending, all, count, isAt, used, gapless, ticks, isOffset}
+use Rattle.demand.specs.Demand.{Sample, firstOf, lastOf, ascending, all, count, isAt, used, gapless, ticks, isOffset}
 use Rattle.laws.specs.Tests.{yes-le, and-left, and-right, eq-is}
 use Rattle.samples.specs.Lists.{all-at, find, asc-split, last-append, last-of, le-last, first-le-last, multiple}
 use Rattle.samples.specs.Ticks.{Steady}

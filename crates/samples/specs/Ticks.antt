@@ -9,7 +9,7 @@ use mathlib.Core.Path.{_≡_, refl, sym, ap, _∙_, subst}
 use mathlib.Core.Logic.{_≢_, _⊎_, inl, inr}
 use mathlib.Core.Bool.{true}
 use mathlib.Core.List.{List, [], _∷_, _++_}
-use Rattle.model.specs.Demand.{Sample, lastOf, ascending, count, isAt, used, isOffset}
+use Rattle.demand.specs.Demand.{Sample, lastOf, ascending, count, isAt, used, isOffset}
 use Rattle.laws.specs.Tests.{yes-eq, no-eq}
 use Rattle.samples.specs.Lists.{ofColumn, count-append, count-one, count-none, at-yes, at-no-stamp, at-no-column, used-in, asc-split, none-below, last-snoc, last-le, multiple}
 

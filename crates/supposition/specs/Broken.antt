@@ -7,9 +7,9 @@ use mathlib.Core.List.{List, [], _∷_, _++_, map}
 use lib.ListN.{length, replicate}
 use Rattle.model.specs.declared.Row.{Row}
 use Rattle.model.specs.Store.{Call, recordCall, batchCall, consolidateCall}
-use Rattle.model.specs.Demand.{Situation, suited, supposed, history}
+use Rattle.demand.specs.Demand.{Situation, suited, supposed, history}
 use Rattle.model.specs.Cases.{tier, plan, num}
-use Rattle.model.specs.Instance.{Instance-defs, both}
+use Rattle.demand.specs.Instance.{Instance-defs, both}
 
 -- ---- plans that are not suited: one tier, five tiers, a ratio that is not whole, a ratio of 4,097, a tier that takes the least, slots that do not span the
 -- coarsest interval; and one with the ratio 4,096

@@ -10,9 +10,9 @@ use lib.ListN.{replicate, take}
 use Rattle.model.specs.declared.Row.{Row}
 use Rattle.model.specs.Image.{rows, rowCount}
 use Rattle.model.specs.Store.{Call, recordCall, consolidateCall}
-use Rattle.model.specs.Demand.{Demand-defs, Sample, Event, events, samplesIn, firstOf, ascending, all, isOffset, gapless, ticks, scheduled, supposed, each, suited, used, Situation, finest, coarsest, afterRun, history, samples, answers, tierInterval, due}
+use Rattle.demand.specs.Demand.{Demand-defs, Sample, Event, events, samplesIn, firstOf, ascending, all, isOffset, gapless, ticks, scheduled, supposed, each, suited, used, Situation, finest, coarsest, afterRun, history, samples, answers, tierInterval, due}
 use Rattle.model.specs.Cases.{Cases-defs, tier, plan, num}
-use Rattle.model.specs.Instance.{both}
+use Rattle.demand.specs.Instance.{both}
 use Rattle.samples.specs.Lists.{all-three}
 
 -- the clauses of `supposed` behind the first

@@ -9,7 +9,7 @@ use Rattle.model.specs.declared.Queried.{Queried}
 use Rattle.model.specs.Lent.{Lent, creation}
 use Rattle.model.specs.Query.{QueryReply, query, repliedBy}
 use Rattle.model.specs.Store.{Call, call, after, consolidateCall, readOr, queriedReply}
-use Rattle.model.specs.Demand.{handedOut, created, upToRun, afterRun, answers}
+use Rattle.demand.specs.Demand.{handedOut, created, upToRun, afterRun, answers}
 use Rattle.lent.specs.Parts.{lentOf}
 use Rattle.runs.specs.Calls.{after-append}
 use Rattle.calls.specs.Encoded.{callsIn}

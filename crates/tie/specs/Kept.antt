@@ -13,7 +13,7 @@ use Rattle.model.specs.declared.Flags.{Flags}
 use Rattle.model.specs.declared.Point.{Point}
 use Rattle.model.specs.Lent.{Lent}
 use Rattle.model.specs.Store.{after}
-use Rattle.model.specs.Demand.{Sample, count, inWindow, sumOf, within, each, Situation, afterRun, samples, answers, tierInterval, due}
+use Rattle.demand.specs.Demand.{Sample, count, inWindow, sumOf, within, each, Situation, afterRun, samples, answers, tierInterval, due}
 use Rattle.laws.specs.Tests.{split3}
 use Rattle.fidelity.specs.Stronger.{Supposition, StrongerDemand}
 use Rattle.fidelity.specs.Theorem.{stronger}

@@ -1,5 +1,5 @@
 -- The third demand is not empty: a list of calls on three tiers that meets the supposition, with the promised answers, by computation. It stands beside the
--- definitions, so that an edit of one meets it. Assumes nothing.
+-- statement, so that an edit of it meets it. Assumes nothing.
 use Prim.Native.Nat.{ℕ, zero, suc, _+_, _-_, _*_, _^_}
 use mathlib.Core.Path.{_≡_, refl}
 use mathlib.Core.Bool.{Bool, true, false, _&&_}
@@ -8,14 +8,14 @@ use lib.ListN.{length, replicate}
 use lib.Dec.{T, eqb}
 use lib.IntN.{pos, negsuc}
 use lib.Ieee.{binary64, toBits, ofInt}
 use Rattle.model.specs.declared.Row.{Row}
 use Rattle.model.specs.declared.Point.{Point}
 use Rattle.model.specs.Image.{rows, createCheck}
 use Rattle.model.specs.Lent.{Lent}
 use Rattle.model.specs.Record.{Entry}
 use Rattle.model.specs.Store.{Call, call, after, recordCall, batchCall, queryCall, autoCall, consolidateCall}
-use Rattle.model.specs.Demand.{Demand-defs, Situation, Event, took, ran, samplesIn, suited, supposed, history, newestWindows, each, answers, used, events, created, upToRun, afterRun, handedOut}
+use Rattle.demand.specs.Demand.{Demand-defs, Situation, Event, took, ran, samplesIn, suited, supposed, history, newestWindows, each, answers, used, events, created, upToRun, afterRun, handedOut}
 use Rattle.model.specs.Cases.{Cases-defs, tierOf, tier, plan, num, infinity, at}
 
 -- ---- the list
 
