@@ -1,3 +1,2 @@
 pub mod Fetch
 pub mod Laws
-pub mod Stored

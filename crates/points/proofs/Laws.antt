@@ -1,11 +1,11 @@
 -- What the proofs of points rest on: a part cut to its slice, and what a query's answer hands out. Assumes nothing.
-use Prim.Native.Nat.{ℕ, _-_, _<_, min}
+use Prim.Native.Nat.{ℕ, _-_, _/_, _<_, min}
 use native.Mathlib.Omega.{arith}
 use native.Mathlib.Decide.{decLt}
-use mathlib.Core.Path.{_≡_, refl, sym, ap, _∙_}
+use mathlib.Core.Path.{_≡_, refl, ap}
 use mathlib.Core.List.{List}
 use lib.ListN.{length, take, drop}
-use lib.Seq.{take-nil}
+use lib.Seq.{take-nil, sets}
 use Rattle.model.specs.declared.Found.{Found}
 use Rattle.model.specs.declared.Point.{Point}
 use Rattle.model.specs.declared.Queried.{Queried}
@@ -17,7 +17,7 @@ use Rattle.model.specs.Query.{repliedBy}
 use Rattle.model.specs.Store.{readOr, queriedReply}
 use Rattle.demand.specs.Demand.{handedOut}
 use Rattle.readers.proofs.Laws.{part-none, part-past, part-rest}
-use Rattle.fetch.specs.Stored.{storedFrom, stored}
+use Rattle.fetch.specs.Fetch.{words}
 
 -- ---- a part, cut to its slice
 
@@ -42,15 +42,25 @@ part-cut s a e = go (decLt (length s) e) (decLt (length s) a) (decLt e a)
 
 -- ---- a query's answer
 
--- a refused query hands out nothing
-pub nothing : (image : List ℕ) (q : Queried) (r : Refusal) → q ≡ Refused r → (s : List ℕ) (room : ℕ) → stored s 0 ≡ take room (handedOut (queriedReply image q))
-unfolding handedOut queriedReply readOr repliedBy stored storedFrom
-nothing image q r e s room = rw e (sym (take-nil room))
+-- n points ps, written over the words old, give the words out
+abbrev pub Handed : List Point → List ℕ → List ℕ → ℕ → Type 0
+Handed ps old out n = (n ≡ length ps) × (out ≡ sets old 0 (words ps))
 
--- the points of an answer, read from the part of the image that it names
+-- the points that are to be handed out into the words old
+abbrev pub roomed : List ℕ → List Point → List Point
+roomed old ps = take (length old / 2) ps
+
+pub same-points : (old : List ℕ) {ps qs : List Point} {n : ℕ} {out : List ℕ} → ps ≡ qs → Handed ps old out n → Handed qs old out n
+same-points old e h = rw e at h
+
+-- a refused query hands out nothing: none are counted, and every word stays
+pub refused-out : (image : List ℕ) (q : Queried) (old : List ℕ) {r : Refusal} → q ≡ Refused r → Handed (roomed old (handedOut (queriedReply image q))) old old 0
+unfolding handedOut queriedReply readOr repliedBy words
+refused-out image q old e = rw (e, take-nil) (refl, refl)
+
+-- an answer hands out the points of the part of the image that it names
 pub answer-out : (image : List ℕ) (q : Queried) (f : Found) → q ≡ Answer f → (to from : ℕ) → to ≡ min (f .to) (length image) → from ≡ min (f .from) to
-    → (room : ℕ) {ps : List Point} → ps ≡ take room (pointsFrom (f .place .left) (take (to - from) (drop from image)) (f .column) (f .start) (f .end) (f .place))
-    → ps ≡ take room (handedOut (queriedReply image q))
+    → pointsFrom (f .place .left) (take (to - from) (drop from image)) (f .column) (f .start) (f .end) (f .place) ≡ handedOut (queriedReply image q)
 unfolding handedOut queriedReply readOr repliedBy pointsOf
-answer-out image q f e to from t a room w =
-    w ∙ rw e (ap (λ (s : List ℕ). take room (pointsFrom (f .place .left) s (f .column) (f .start) (f .end) (f .place))) (rw (a, t) (part-cut image (f .from) (f .to))))
+answer-out image q f e to from t a =
+    rw e (ap (λ (s : List ℕ). pointsFrom (f .place .left) s (f .column) (f .start) (f .end) (f .place)) (rw (a, t) (part-cut image (f .from) (f .to))))

@@ -1,12 +1,13 @@
 -- What `tie::demand` promises: the third demand about what the code leaves and hands out. The function creates a store, carries out the calls before the run, the
 -- run and the calls between, queries over all time, and steps the reader to its end, each by its proved core; so the checker holds their contracts together.
 -- Assumes nothing.
-use Prim.Native.Nat.{ℕ, zero, suc}
+use Prim.Native.Nat.{ℕ, zero, suc, _/_}
 use mathlib.Core.Path.{_≡_, refl}
 use mathlib.Core.Bool.{true, false≢true}
 use mathlib.Core.List.{List, [], _∷_}
 use lib.Dec.{T, eqb}
-use lib.ListN.{take}
+use lib.ListN.{length, take}
+use lib.Seq.{sets}
 use lib.Ieee.{binary64, ofBits}
 use lib.Ieee.Bits.{is-true}
 use Rattle.model.specs.declared.Flags.{Flags}
@@ -17,19 +18,24 @@ use Rattle.demand.specs.Demand.{Sample, count, inWindow, sumOf, within, each, S
 use Rattle.laws.specs.Tests.{split3}
 use Rattle.fidelity.specs.Stronger.{Supposition, StrongerDemand}
 use Rattle.fidelity.specs.Theorem.{stronger}
+use Rattle.fetch.specs.Fetch.{words}
 use Rattle.calls.specs.Encoded.{callsIn}
 
 -- the situation that the function is called in; the calls stand in bytes
 abbrev pub situation : List ℕ → List ℕ → Flags → List ℕ → List ℕ → ℕ → ℕ → Situation
 situation plan buf flags before between c k = record { plan = plan; buf = buf; flags = flags .wrapped; before = callsIn before; between = callsIn between; column = c; tier = k }
 
--- l is left, and these points are handed out, where there is room for so many
-pub record Kept (s : Situation) (l : Lent) (room : ℕ) (ps : List Point) : Type 0 where
+-- l is left; of the words lent, `old` before, `out` after, and n is answered
+pub record Kept (s : Situation) (l : Lent) (old out : List ℕ) (n : ℕ) : Type 0 where
   -- for every situation: image and flags are what the calls leave, the points those of the query, as many as there is room for
   pub left : l ≡ after (afterRun s) (s .between)
-  pub handed : ps ≡ take room (answers s)
+  pub points : List Point
+  pub handed : points ≡ take (length old / 2) (answers s)
+  -- n is how many; they stand at the start of `out`, two words a point: stamp, then value; the words past them are as before
+  pub counted : n ≡ length points
+  pub stored : out ≡ sets old 0 (words points)
   -- under the supposition: one point for each window that is due, from the oldest on as many as there is room for
-  pub promised : Supposition s → T (each (s .column) (tierInterval s) (s .tier) (samples s) (take room (due s)) ps)
+  pub promised : Supposition s → T (each (s .column) (tierInterval s) (s .tier) (samples s) (take (length old / 2) (due s)) points)
 
 each-take : (c i k : ℕ) (xs : List Sample) (n : ℕ) (ws : List ℕ) (ps : List Point) → each c i k xs ws ps ≡ true → each c i k xs (take n ws) (take n ps) ≡ true
 unfolding each
@@ -41,13 +47,14 @@ each-take c i k xs (suc n) (w ∷ ws) (p ∷ ps) h =
     let u = split3 (eqb (p .stamp) w) (within k (ofBits binary64 (p .value)) (sumOf (inWindow c i w) xs) (count (inWindow c i w) xs)) (each c i k xs ws ps) h in
     rw (u .0, u .1) (each-take c i k xs n ws ps (u .2))
 
--- what is left and handed out, and the theorem
-pub kept : (s : Situation) (l : Lent) (room : ℕ) (ps : List Point) → l ≡ after (afterRun s) (s .between) → ps ≡ take room (answers s) → Kept s l room ps
+-- what is left, counted and stored, and the theorem
+pub kept : (s : Situation) (l : Lent) (old out : List ℕ) (n : ℕ) → l ≡ after (afterRun s) (s .between)
+    → (n ≡ length (take (length old / 2) (answers s))) × (out ≡ sets old 0 (words (take (length old / 2) (answers s)))) → Kept s l old out n
 unfolding StrongerDemand
-kept s l room ps left handed = record { left = left; handed = handed; promised = promised }
+kept s l old out n left h = record { left = left; points = take (length old / 2) (answers s); handed = refl; counted = h .0; stored = h .1; promised = promised }
   where
     all-due : Supposition s → each (s .column) (tierInterval s) (s .tier) (samples s) (due s) (answers s) ≡ true
     all-due h = is-true (each (s .column) (tierInterval s) (s .tier) (samples s) (due s) (answers s)) (stronger s h)
 
-    promised : Supposition s → T (each (s .column) (tierInterval s) (s .tier) (samples s) (take room (due s)) ps)
-    promised h = rw (handed, each-take (s .column) (tierInterval s) (s .tier) (samples s) room (due s) (answers s) (all-due h)) tt
+    promised : Supposition s → T (each (s .column) (tierInterval s) (s .tier) (samples s) (take (length old / 2) (due s)) (take (length old / 2) (answers s)))
+    promised h = rw (each-take (s .column) (tierInterval s) (s .tier) (samples s) (length old / 2) (due s) (answers s) (all-due h)) tt

@@ -1,14 +1,11 @@
 // The third demand about the code. `demand` creates a store in a lent slice, carries out the calls before a run, the run and the calls between, queries a
 // column at a tier over all time, and writes out the points that the reader hands out. What it ensures is the third demand of those points (specs/Kept.antt),
-// for every plan, slice, flags and calls in bytes; nothing is required. A point takes two numbers of `out`: stamp, then value.
+// for every plan, slice, flags and calls in bytes; nothing is required. A point takes two words of `out`: stamp, then value; the words past the points stay.
 ghost use mathlib.Core.Path.{_≡_};
 ghost use mathlib.Core.List.{_++_, _∷_, []};
-ghost use Prim.Native.Nat.{_/_};
-ghost use lib.ListN.{length};
 ghost use Rattle.model.specs.Store.{after, consolidateCall};
 ghost use Rattle.lent.specs.Parts.{lentOf};
 ghost use Rattle.calls.specs.Encoded.{callsIn};
-ghost use Rattle.fetch.specs.Stored.{stored};
 ghost use Rattle.tie.specs.Kept.{situation, Kept};
 
 // The flags as the last call left them, and how many points were written out.
@@ -38,7 +35,7 @@ pub fn demand(
     tier: u32,
     out: &mut [u64],
 ) -> Demanded
-    ensures { λ r. ⌜ Kept (situation (now (plan .entry)) (now (image .entry)) flags (now (before .entry)) (now (between .entry)) column tier) (lentOf (now (image .exit)) (r .flags)) (length (now (out .entry)) / 2) (stored (now (out .exit)) (r .count)) ⌝ }
+    ensures { λ r. ⌜ Kept (situation (now (plan .entry)) (now (image .entry)) flags (now (before .entry)) (now (between .entry)) column tier) (lentOf (now (image .exit)) (r .flags)) (now (out .entry)) (now (out .exit)) (r .count) ⌝ }
 {
     let made = create::create(plan, image, flags);
     let fresh = made.flags;

@@ -1,7 +1,8 @@
 -- `points::hand_answer` meets its contract: a refused query has no points, and an answer's are those of its reader. Assumes nothing.
-use Prim.Native.Nat.{_/_}
-use lib.ListN.{length}
-use Rattle.points.proofs.Laws.{nothing, answer-out}
+use mathlib.Core.Path.{ap}
+use Rattle.model.specs.Store.{queriedReply}
+use Rattle.demand.specs.Demand.{handedOut}
+use Rattle.points.proofs.Laws.{Handed, roomed, same-points, refused-out, answer-out}
 use borrow.Author.Needs.{needs}
 use Rattle.points.proofs.hand_answer.Statement.{statement}
 use Rattle.points.proofs.hand_answer.Tie as tie
@@ -12,9 +13,12 @@ enum-known-queried c = search needs
 enum-told : tie.Need-enum-told
 enum-told c = search needs
 
+-- where a query was refused: nothing is handed out
+refused : (c : tie.After-enum-told) → let a = c .before .before .before .before .args in Handed (roomed (a .out .now) (handedOut (queriedReply (a .image .now) (a .queried)))) (a .out .now) (a .out .now) 0
+refused c = let a = c .before .before .before .before .args in refused-out (a .image .now) (a .queried) (a .out .now) (c .enum-told .given .1)
+
 returns : tie.Need-returns
-returns c =
-    nothing (c .before .before .before .before .args .image .now) (c .before .before .before .before .args .queried) (c .enum-told .given .0 .0) (c .enum-told .given .1) (c .before .before .before .before .args .out .now) (length (c .before .before .before .before .args .out .now) / 2)
+returns c = search refused
 
 least-requires : tie.Need-least-requires
 least-requires c κs = search needs
@@ -38,7 +42,13 @@ same-length : tie.Need-same-length
 same-length c = search needs
 
 returns-2 : tie.Need-returns-2
-returns-2 c = answer-out (c .before .before .before .before .before .before .before .before .before .before .before .before .before .args .image .now) (c .before .before .before .before .before .before .before .before .before .before .before .before .before .args .queried) (c .before .before .before .before .before .before .before .before .before .queried .given .0 .0) (c .before .before .before .before .before .before .before .before .before .queried .given .1) (c .before .before .before .before .before .before .before .least .result) (c .before .before .before .before .before .before .least2 .result) (c .before .before .before .before .before .before .before .least .ensures) (c .before .before .before .before .before .before .least2 .ensures) (length (c .before .before .before .before .before .before .before .before .before .before .before .before .before .args .out .now) / 2) (c .before .before .hand-out .ensures)
+returns-2 c =
+    let at-to = c .before .before .before .before .before .before .before in
+    let a = at-to .before .before .before .before .before .before .args in
+    let found = at-to .before .before .queried .given in
+    let from = c .before .before .before .before .before .before .least2 in
+    let same = answer-out (a .image .now) (a .queried) (found .0 .0) (found .1) (at-to .least .result) (from .result) (at-to .least .ensures) (from .ensures) in
+    same-points (a .out .now) (ap (roomed (a .out .now)) same) (c .before .before .hand-out .ensures)
 
 pub hand-answer-spec : {M : Type 1} → statement M
 hand-answer-spec =

@@ -1,6 +1,9 @@
--- `points::hand_out` meets its contract: what `fetch` leaves, read back. Assumes nothing.
+-- `points::hand_out` meets its contract: what is fetched are the reader's points. Assumes nothing.
+use Prim.Native.Nat.{_/_}
+use lib.ListN.{length}
 use Rattle.model.specs.Read.{pointsOf}
-use Rattle.fetch.specs.Laws.{fetched-out}
+use Rattle.fetch.specs.Laws.{fetched-are}
+use Rattle.points.proofs.Laws.{same-points}
 use borrow.Author.Needs.{needs}
 use Rattle.points.proofs.hand_out.Statement.{statement}
 use Rattle.points.proofs.hand_out.Tie as tie
@@ -13,7 +16,10 @@ same-length c = search needs
 
 returns : tie.Need-returns
 unfolding pointsOf
-returns c = let a = c .before .before .before .before .before .before .args in fetched-out (a .slab .now) (a .column) (a .start) (a .end) (a .from) (a .out .now) _ _ (c .before .before .fetch .ensures .0) (c .before .before .fetch .ensures .1 .1)
+returns c =
+    let a = c .before .before .before .before .before .before .args in
+    let got = c .before .before .fetch .ensures in
+    same-points (a .out .now) (fetched-are (a .slab .now) (a .column) (a .start) (a .end) (length (a .out .now) / 2) (a .from)) (got .0, got .1 .1)
 
 pub hand-out-spec : {M : Type 1} → statement M
 hand-out-spec =

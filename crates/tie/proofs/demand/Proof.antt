@@ -24,7 +24,12 @@ same-length-2 c = c .before .before .hand-answer .kept .1 .1 .0
 
 returns : tie.Need-returns
 returns c =
-    demanded (c .before .before .before .before .before .before .before .before .before .before .before .before .before .before .before .before .before .before .before .before .before .args .plan .now) (c .before .before .before .before .before .before .before .before .before .before .before .before .before .before .before .before .before .before .before .before .before .args .image .now) (c .before .before .before .before .before .before .before .before .before .before .before .before .before .before .before .before .before .before .before .before .before .args .flags) (c .before .before .before .before .before .before .before .before .before .before .before .before .before .before .before .before .before .before .before .before .before .args .before .now) (c .before .before .before .before .before .before .before .before .before .before .before .before .before .before .before .before .before .before .before .before .before .args .between .now) (c .before .before .before .before .before .before .before .before .before .before .before .before .before .before .before .before .before .before .before .before .before .args .column) (c .before .before .before .before .before .before .before .before .before .before .before .before .before .before .before .before .before .before .before .before .before .args .tier) (c .before .before .before .before .before .query .result) (c .before .before .before .before .before .before .before .before .before .before .before .before .before .before .create .ensures .1) (c .before .before .before .before .before .before .before .before .before .carry-all .ensures) (c .before .before .before .before .before .query .ensures) (c .before .before .hand-answer .ensures)
+    let asked = c .before .before .before .before .before in
+    let carried = asked .before .before .before .before in
+    let made = carried .before .before .before .before .before in
+    let a = made .before .before .before .before .before .before .before .args in
+    demanded (a .plan .now) (a .image .now) (a .flags) (a .before .now) (a .between .now) (a .column) (a .tier) (asked .query .result)
+    (made .create .ensures .1) (carried .carry-all .ensures) (asked .query .ensures) (c .before .before .hand-answer .ensures)
 
 pub demand-spec : {M : Type 1} → statement M
 demand-spec =
