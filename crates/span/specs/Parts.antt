@@ -50,3 +50,4 @@ pub record Ran (q : Job) (n : ℕ) (p : Place) (r : Run) : Type 0 where
   pub fewer : r .rest .left < p .left
   pub split : walk n (p .slot) (p .left) ≡ walk n (r .run .slot) (r .run .left) ++ walk n (r .rest .slot) (r .rest .left)
   pub rest-is : walk n (r .rest .slot) (r .rest .left) ≡ from q (r .window + q .long) (walk n (suc (p .slot) % n) (p .left - 1))
+  pub rest-slot-is : r .rest .slot ≡ steps n (suc (p .slot) % n) (p .left - 1 - r .rest .left)

@@ -5,7 +5,7 @@ use native.Mathlib.Omega.{arith}
 use Rattle.model.specs.Ring.{walk}
 use Rattle.model.specs.Window.{windowOf}
 use Rattle.window.specs.Parts.{jobIn}
-use Rattle.span.specs.Parts.{from}
+use Rattle.span.specs.Parts.{from, steps}
 use Rattle.span.proofs.Laws.{run-split}
 use borrow.Author.Needs.{needs}
 use Rattle.span.proofs.next_run.Statement.{statement}
@@ -30,7 +30,24 @@ sub-t12-2 : tie.Need-sub-t12-2
 sub-t12-2 c = omega (arith, c .before .skip .ensures .fewer)
 
 returns : tie.Need-returns
-returns c = let a = c .before .before .before .before .before .before .args in let k = c .before .skip .ensures in record { window-is = c .before .before .before .window-of .ensures .0 ∙ ap (windowOf (a .q .long)) (c .before .before .before .before .stamp-of .ensures); run-in = c .before .before .before .before .before .before .pre .1 .0; run-few = omega arith; rest-in = k .slot-in; fewer = omega (arith, k .fewer); split = run-split (a .q .slots) (a .place .slot) (a .place .left) (c .before .before .before .before .before .before .pre .1 .1) (c .before .before .next-slot .ensures .0) (k .fewer) (k .slot-is); rest-is = k .rest-is ∙ ap (λ x. from (jobIn (a .slab .now) (a .q)) (c .before .before .before .window-of .result + a .q .long) (walk (a .q .slots) x (a .place .left - 1))) (c .before .before .next-slot .ensures .0) }
+returns c =
+    let at-next = c .before .before in
+    let at-window = at-next .before in
+    let at-stamp = at-window .before in
+    let start = at-stamp .before .before in
+    let a = start .args in
+    let k = c .before .skip .ensures in
+    let job = jobIn (a .slab .now) (a .q) in
+    record {
+      window-is = at-window .window-of .ensures .0 ∙ ap (windowOf (a .q .long)) (at-stamp .stamp-of .ensures);
+      run-in = start .pre .1 .0;
+      run-few = omega arith;
+      rest-in = k .slot-in;
+      fewer = omega (arith, k .fewer);
+      split = run-split (a .q .slots) (a .place .slot) (a .place .left) (start .pre .1 .1) (at-next .next-slot .ensures .0) (k .fewer) (k .slot-is);
+      rest-is = k .rest-is ∙ ap (λ x. from job (at-window .window-of .result + a .q .long) (walk (a .q .slots) x (a .place .left - 1))) (at-next .next-slot .ensures .0);
+      rest-slot-is = k .slot-is ∙ ap (λ x. steps (a .q .slots) x (a .place .left - 1 - c .before .skip .result .left)) (at-next .next-slot .ensures .0);
+    }
 
 pub next-run-spec : {M : Type 1} → statement M
 next-run-spec =
