@@ -43,18 +43,18 @@ part-cut s a e = go (decLt (length s) e) (decLt (length s) a) (decLt e a)
 -- ---- a query's answer
 
 -- n points ps, written over the words old, give the words out
-abbrev pub Handed : List Point → List ℕ → List ℕ → ℕ → Type 0
-Handed ps old out n = (n ≡ length ps) × (out ≡ sets old 0 (words ps))
+abbrev pub WrittenOut : List Point → List ℕ → List ℕ → ℕ → Type 0
+WrittenOut ps old out n = (n ≡ length ps) × (out ≡ sets old 0 (words ps))
 
 -- the points that are to be handed out into the words old
-abbrev pub roomed : List ℕ → List Point → List Point
-roomed old ps = take (length old / 2) ps
+abbrev pub roomFor : List ℕ → List Point → List Point
+roomFor old ps = take (length old / 2) ps
 
-pub same-points : (old : List ℕ) {ps qs : List Point} {n : ℕ} {out : List ℕ} → ps ≡ qs → Handed ps old out n → Handed qs old out n
+pub same-points : (old : List ℕ) {ps qs : List Point} {n : ℕ} {out : List ℕ} → ps ≡ qs → WrittenOut ps old out n → WrittenOut qs old out n
 same-points old e h = rw e at h
 
 -- a refused query hands out nothing: none are counted, and every word stays
-pub refused-out : (image : List ℕ) (q : Queried) (old : List ℕ) {r : Refusal} → q ≡ Refused r → Handed (roomed old (handedOut (queriedReply image q))) old old 0
+pub refused-out : (image : List ℕ) (q : Queried) (old : List ℕ) {r : Refusal} → q ≡ Refused r → WrittenOut (roomFor old (handedOut (queriedReply image q))) old old 0
 unfolding handedOut queriedReply readOr repliedBy words
 refused-out image q old e = rw (e, take-nil) (refl, refl)
 

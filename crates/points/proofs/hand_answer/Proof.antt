@@ -2,7 +2,7 @@
 use mathlib.Core.Path.{ap}
 use Rattle.model.specs.Store.{queriedReply}
 use Rattle.demand.specs.Demand.{handedOut}
-use Rattle.points.proofs.Laws.{Handed, roomed, same-points, refused-out, answer-out}
+use Rattle.points.proofs.Laws.{WrittenOut, roomFor, same-points, refused-out, answer-out}
 use borrow.Author.Needs.{needs}
 use Rattle.points.proofs.hand_answer.Statement.{statement}
 use Rattle.points.proofs.hand_answer.Tie as tie
@@ -14,7 +14,7 @@ enum-told : tie.Need-enum-told
 enum-told c = search needs
 
 -- where a query was refused: nothing is handed out
-refused : (c : tie.After-enum-told) → let a = c .before .before .before .before .args in Handed (roomed (a .out .now) (handedOut (queriedReply (a .image .now) (a .queried)))) (a .out .now) (a .out .now) 0
+refused : (c : tie.After-enum-told) → let a = c .before .before .before .before .args in WrittenOut (roomFor (a .out .now) (handedOut (queriedReply (a .image .now) (a .queried)))) (a .out .now) (a .out .now) 0
 refused c = let a = c .before .before .before .before .args in refused-out (a .image .now) (a .queried) (a .out .now) (c .enum-told .given .1)
 
 returns : tie.Need-returns
@@ -48,7 +48,7 @@ returns-2 c =
     let found = at-to .before .before .queried .given in
     let from = c .before .before .before .before .before .before .least2 in
     let same = answer-out (a .image .now) (a .queried) (found .0 .0) (found .1) (at-to .least .result) (from .result) (at-to .least .ensures) (from .ensures) in
-    same-points (a .out .now) (ap (roomed (a .out .now)) same) (c .before .before .hand-out .ensures)
+    same-points (a .out .now) (ap (roomFor (a .out .now)) same) (c .before .before .hand-out .ensures)
 
 pub hand-answer-spec : {M : Type 1} → statement M
 hand-answer-spec =

@@ -17,11 +17,18 @@ carry-out-requires-2 : tie.Need-carry-out-requires-2
 carry-out-requires-2 c κs = tt
 
 same-length : tie.Need-same-length
-same-length c = c .before .before .carry-out2 .kept .0 ∙ c .before .before .before .before .before .before .before .consolidate .kept .0 ∙ c .before .before .before .before .before .before .before .before .before .before .before .carry-out .kept .0
+same-length c =
+    let ran = c .before .before .before .before .before .before .before in
+    let recorded = ran .before .before .before .before in
+    c .before .before .carry-out2 .kept .0 ∙ ran .consolidate .kept .0 ∙ recorded .carry-out .kept .0
 
 returns : tie.Need-returns
 returns c =
-    carried (lentOf (c .before .before .before .before .before .before .before .before .before .before .before .before .before .before .before .before .args .image .now) (c .before .before .before .before .before .before .before .before .before .before .before .before .before .before .before .before .args .flags)) (callsIn (c .before .before .before .before .before .before .before .before .before .before .before .before .before .before .before .before .args .before .now)) (callsIn (c .before .before .before .before .before .before .before .before .before .before .before .before .before .before .before .before .args .between .now)) (c .before .before .before .before .before .before .before .before .before .before .before .carry-out .ensures) (ap (λ (d : Done). d .lent) (c .before .before .before .before .before .before .before .consolidate .ensures)) (c .before .before .carry-out2 .ensures)
+    let ran = c .before .before .before .before .before .before .before in
+    let recorded = ran .before .before .before .before in
+    let a = recorded .before .before .before .before .before .args in
+    carried (lentOf (a .image .now) (a .flags)) (callsIn (a .before .now)) (callsIn (a .between .now))
+    (recorded .carry-out .ensures) (ap (λ (d : Done). d .lent) (ran .consolidate .ensures)) (c .before .before .carry-out2 .ensures)
 
 pub carry-all-spec : {M : Type 1} → statement M
 carry-all-spec =
