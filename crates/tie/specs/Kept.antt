@@ -25,7 +25,7 @@ use Rattle.calls.specs.Encoded.{callsIn}
 abbrev pub situation : List ℕ → List ℕ → Flags → List ℕ → List ℕ → ℕ → ℕ → Situation
 situation plan buf flags before between c k = record { plan = plan; buf = buf; flags = flags .wrapped; before = callsIn before; between = callsIn between; column = c; tier = k }
 
--- l is left; of the words lent, `old` before, `out` after, and n is answered
+-- l is left, the words lent go from `old` to `out`, and n is answered
 pub record Kept (s : Situation) (l : Lent) (old out : List ℕ) (n : ℕ) : Type 0 where
   -- for every situation: image and flags are what the calls leave, the points those of the query, as many as there is room for
   pub left : l ≡ after (afterRun s) (s .between)
