@@ -10,10 +10,9 @@ use lib.ListN.{replicate, take}
 use Rattle.model.specs.declared.Row.{Row}
 use Rattle.model.specs.Image.{rows, rowCount}
 use Rattle.model.specs.Store.{Call, recordCall, consolidateCall}
-use Rattle.demand.specs.Demand.{Demand-defs, Sample, Event, events, samplesIn, firstOf, ascending, all, isOffset, gapless, ticks, scheduled, supposed, each, suited, used, Situation, finest, coarsest, afterRun, history, samples, answers, tierInterval, due}
+use Rattle.demand.specs.Demand.{Demand-defs, Event, events, samplesIn, firstOf, ascending, all, isOffset, gapless, ticks, scheduled, each, suited, used, Situation, finest, coarsest, afterRun, history, samples, answers, tierInterval, due}
 use Rattle.model.specs.Cases.{Cases-defs, tier, plan, num}
 use Rattle.demand.specs.Instance.{both}
-use Rattle.samples.specs.Lists.{all-three}
 
 -- the clauses of `supposed` behind the first
 unfoldable pub clauses : Situation → List Bool
@@ -27,29 +26,6 @@ clauses s =
 unfoldable pub conj : List Bool → Bool
 conj [] = true
 conj (b ∷ bs) = b && conj bs
-
--- ---- they are the whole of it
-
-pub supposed-is : (s : Situation) → supposed (finest s) (coarsest s) (history s) ≡ ltb 0 (firstOf (samplesIn (history s))) && conj (clauses s)
-unfolding supposed clauses conj
-supposed-is s =
-    let xs = samplesIn (history s) in
-    let d = finest s in
-    let f : Sample → Bool = λ x. isOffset (x .value) in
-    let g : Sample → Bool = λ x. eqb (x .stamp % d) 0 in
-    let h : Sample → Bool = λ x. gapless (x .column) d (firstOf xs) (ticks d xs) xs in
-    rw (all-three f g h xs)
-    (nest (ltb 0 (firstOf xs)) (eqb (firstOf xs % coarsest s) 0) (ascending 0 xs) (all f xs) (all g xs) (all h xs) (scheduled d (coarsest s) 0 false (history s)))
-  where
-    nest : (a b c x y z e : Bool) → a && b && c && (x && y && z) && e ≡ a && (b && (c && (x && (y && (z && (e && true))))))
-    nest false b c x y z e = refl
-    nest true false c x y z e = refl
-    nest true true false x y z e = refl
-    nest true true true false y z e = refl
-    nest true true true true false z e = refl
-    nest true true true true true false e = refl
-    nest true true true true true true true = refl
-    nest true true true true true true false = refl
 
 -- ---- lists and plans that break one of them
 
