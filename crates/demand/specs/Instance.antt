@@ -97,7 +97,13 @@ pub dues :
 unfolding Instance-defs sample did
 dues = refl
 
--- the same points, list by list. As a test, so that a claim that fails is not computed again for its message
+-- the same numbers, and the same points, list by list. As tests, so that a claim that fails is not computed again for its message
+unfoldable pub sameNumbers : List ℕ → List ℕ → Bool
+sameNumbers [] [] = true
+sameNumbers [] (y ∷ ys) = false
+sameNumbers (x ∷ xs) [] = false
+sameNumbers (x ∷ xs) (y ∷ ys) = eqb x y && sameNumbers xs ys
+
 unfoldable pub same : List Point → List Point → Bool
 same [] [] = true
 same [] (q ∷ qs) = false

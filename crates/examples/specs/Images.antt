@@ -1,9 +1,9 @@
--- Bytes and layout, plans and images of several rows, to the byte; each fault in a row that is not the first. By computation. Assumes nothing.
-use Prim.Native.Nat.{ℕ, zero, suc, _+_, _-_, _*_, _^_}
+-- Bytes and layout, plans and images of several rows, to the byte; faults also in rows that are not the first. By computation. Assumes nothing.
+use Prim.Native.Nat.{ℕ, zero, suc, _+_, _-_, _^_}
 use mathlib.Core.Path.{_≡_, refl}
 use mathlib.Core.Bool.{Bool, true, false}
 use mathlib.Core.List.{List, [], _∷_, _++_, map}
-use lib.ListN.{length, take, drop, replicate}
+use lib.ListN.{take, replicate}
 use Rattle.model.specs.declared.Row.{Row}
 use Rattle.model.specs.declared.Refusal.the-variants.{BadImage, NoTiers, InvalidMaxSeries, InvalidTierConfig, TooManySlots, TiersNotOrdered, ConsolidationOnHighestTier, LayoutTooLarge}
 use Rattle.model.specs.declared.Refusal.the-variants.{ShortBuffer, CorruptedSlab, InvalidHandle, InvalidValue, InvalidTimestamp, InvalidTier, InvalidTimeRange, NoConsolidationFunction}
@@ -12,14 +12,13 @@ use Rattle.model.specs.declared.ConsolidationFn.the-variants.{Average, Min, Max
 use Rattle.model.specs.declared.TierFn.the-variants.{None, Some}
 use Rattle.model.specs.Bytes.{le, bytes, part, splice, get, put}
 use Rattle.model.specs.Words.{numberOf, outcomeNo, functionNo}
-use Rattle.model.specs.Layout.{slotCount}
-use Rattle.model.specs.Image.{rowSlots, imageLength, planCheck, createCheck, openCheck}
+use Rattle.model.specs.Image.{imageLength, planCheck, createCheck, openCheck}
 use Rattle.model.specs.Lent.{Lent, creation}
 use Rattle.model.specs.Cases.{Cases-defs, tierOf, tier, planOf, plan}
 
 -- ---- bytes and words
 
--- a number's lowest bytes alone are stored, the least first, and read so; what lies past a list's end is not stored, and reads as nothing
+-- a number's lowest bytes alone are stored, the least first, and read so; what lies past a list's end is not stored, and counts as 0
 pub bytes-are : (bytes 2 0x1_2345 ≡ 0x45 ∷ 0x23 ∷ []) × (le (0x45 ∷ 0x23 ∷ 1 ∷ []) ≡ 0x1_2345) × (get 2 (9 ∷ 1 ∷ 2 ∷ 9 ∷ []) 1 ≡ 0x201) × (get 4 (9 ∷ 3 ∷ []) 1 ≡ 3)
     × (splice (1 ∷ 2 ∷ 3 ∷ []) 1 (7 ∷ []) ≡ 1 ∷ 7 ∷ 3 ∷ []) × (splice (1 ∷ 2 ∷ []) 1 (7 ∷ 8 ∷ []) ≡ 1 ∷ 7 ∷ []) × (part (1 ∷ 2 ∷ 3 ∷ 4 ∷ []) 1 2 ≡ 2 ∷ 3 ∷ [])
 unfolding Cases-defs
@@ -46,7 +45,7 @@ unfoldable pub each : ℕ → ℕ → List Row
 each j zero = []
 each j (suc k) = tierOf j 0 10 10 0 1 ∷ each (suc j) k
 
--- eight schemas are good; schemas 0 and 2 of three are 2; 45 is four times 10; 2^63 - 1 is a good retention and interval
+-- eight schemas are good; schemas 0 and 2 of three are 2; 10 goes four times into 45: four slots, 264 bytes; 2^63 - 1 is a good retention and interval
 pub plans-are :
     planCheck (planOf 8 (each 0 8)) ∷ planCheck (planOf 3 (tierOf 0 0 10 10 0 1 ∷ tierOf 2 0 10 10 0 1 ∷ [])) ∷ imageLength (plan (tier 0 10 45 0 ∷ []))
     ∷ planCheck (plan (tier 0 (2 ^ 62) (2 ^ 63 - 1) 0 ∷ [])) ∷ planCheck (plan (tier 0 (2 ^ 63 - 1) (2 ^ 63 - 1) 0 ∷ [])) ∷ []
@@ -54,7 +53,7 @@ pub plans-are :
 unfolding Cases-defs each
 plans-are = refl
 
--- 1: tiers 0, 1, 3; tier 0 twice; schema 1 of one schema in the second row; a magic, a version and zero bytes wrong elsewhere than in the first byte, or too small
+-- 1: tiers 0, 1, 3; tier 0 twice; schema 1 of one schema in the second row; the magic's last byte; version 0; the last of the header's zero bytes
 -- 6: the third interval not above the second; 4: the third tier's; 3, 7, 6 and 4 of schema 1; schema 0's 7 before schema 1's 3
 unfoldable pub faulty : List (List ℕ)
 faulty =
@@ -178,7 +177,7 @@ openedSlabs s =
     ∷ openCheck (put 1 s 328 1) ∷ openCheck (put 1 s 340 2) ∷ openCheck (put 1 s 340 1)
     -- more slots and series than the row's; the highest bytes of version, slots, series and cursor
     ∷ openCheck (put 1 s 324 3) ∷ openCheck (put 1 s 328 4) ∷ openCheck (put 1 s 315 1) ∷ openCheck (put 1 s 327 1) ∷ openCheck (put 1 s 331 1) ∷ openCheck (put 1 s 343 1)
-    -- the third slab's magic; the second slab's before the third row's offset is not
+    -- the third slab's magic; the second slab's magic and the third row's offset both wrong: 1, which comes before every 10
     ∷ openCheck (put 1 s 448 0) ∷ openCheck (put 1 (put 1 s 308 0) 192 0xc1) ∷ []
 
 pub opened-slabs : openedSlabs mixedBytes ≡ 10 ∷ 10 ∷ 10 ∷ 10 ∷ 10 ∷ 10 ∷ 10 ∷ 0 ∷ 10 ∷ 10 ∷ 10 ∷ 10 ∷ 10 ∷ 10 ∷ 10 ∷ 1 ∷ []

@@ -1,16 +1,15 @@
 -- The wrap flags that opening works out, row by row, and the rows' numbers by schema and tier. By computation. Assumes nothing.
-use Prim.Native.Nat.{ℕ, zero, suc, _+_, _-_, _*_, _^_}
+use Prim.Native.Nat.{ℕ, _-_}
 use mathlib.Core.Path.{_≡_, refl}
 use mathlib.Core.Bool.{Bool, true, false}
-use mathlib.Core.List.{List, [], _∷_, _++_, map}
-use lib.ListN.{length, take, drop, replicate}
+use mathlib.Core.List.{List, [], _∷_, map}
+use lib.ListN.{drop, replicate}
 use Rattle.model.specs.declared.Row.{Row}
 use Rattle.model.specs.declared.Place.{Place}
 use Rattle.model.specs.declared.End.{End}
 use Rattle.model.specs.declared.End.the-variants.{At, Missing}
 use Rattle.model.specs.Bytes.{put}
 use Rattle.model.specs.Layout.{freshSlab}
-use Rattle.model.specs.Image.{openCheck}
 use Rattle.model.specs.Ring.{Ring, wrapFlag, oldest, newest, order, firstPlace}
 use Rattle.model.specs.Lent.{Lent, creation, opening, ring, rowNo, tiers}
 use Rattle.model.specs.Cases.{Cases-defs, tierOf, planOf}
@@ -33,19 +32,19 @@ pub flags-are :
 unfolding Cases-defs stamped stamped2
 flags-are = refl
 
--- ---- an image of two rows, at 160 three slots and at 276 two
+-- ---- an image of two rows: a slab of three slots at 160, one of two at 276
 
 unfoldable pub fresh2 : List ℕ
 fresh2 = creation (planOf 1 (tierOf 0 0 10 30 0 1 ∷ tierOf 0 1 20 40 1 1 ∷ [])) (record { image = replicate 378 9; flags = replicate 32 true }) .image
 
--- the first ring wrapped, with cursor 1; the second wrapped, with cursor 0
+-- stamps by hand, so that the first ring's flag comes out true (cursor 1, slot 2 stamped), or the second's (cursor 0, slot 1 stamped)
 unfoldable pub firstWrapped : List ℕ
 firstWrapped = put 8 (put 1 fresh2 192 1) 244 30
 
 unfoldable pub secondWrapped : List ℕ
 secondWrapped = put 8 fresh2 352 60
 
--- the flags before: they differ, row by row and past R
+-- the flags before: both rows' true, and past R a false among true
 unfoldable pub before : List Bool
 before = true ∷ true ∷ false ∷ true ∷ replicate 28 true
 
@@ -58,7 +57,7 @@ pub second-wrapped : opening (record { image = secondWrapped; flags = before }) 
 unfolding Cases-defs fresh2 secondWrapped before
 second-wrapped = refl
 
--- a refused opening leaves all flags and bytes: a damaged second slab; a wrong header
+-- a refused opening leaves all flags and bytes: a damaged second slab; a wrong header; no byte at all
 unfoldable pub refusedOn : List ℕ → Lent
 refusedOn s = opening (record { image = s; flags = before })
 
@@ -80,7 +79,7 @@ pub nothing-at-cursor :
 unfolding Cases-defs stamped wrappedRing
 nothing-at-cursor = (refl, refl, refl, refl)
 
--- the order begins behind the cursor, and at 0 where the cursor is last; the oldest is the first that is not 0, not the least, the newest the one at the cursor
+-- the order begins after the cursor, and at 0 where the cursor is last; the oldest is the first that is not 0, not the least, the newest the one at the cursor
 pub ends-are :
     (order (wrappedRing (stamped 1 20 5 0)) ≡ 2 ∷ 0 ∷ 1 ∷ []) × (oldest (wrappedRing (stamped 1 20 5 0)) ≡ At 20) × (newest (wrappedRing (stamped 1 20 5 0)) ≡ At 5)
     × (order (wrappedRing (stamped 2 20 5 1)) ≡ 0 ∷ 1 ∷ 2 ∷ []) × (newest (wrappedRing (stamped 2 20 5 1)) ≡ At 1)
@@ -93,7 +92,7 @@ ends-are = (refl, refl, refl, refl, refl, refl, refl)
 unfoldable pub three : Lent
 three = creation (planOf 3 (tierOf 0 0 10 10 0 1 ∷ tierOf 0 1 20 20 1 1 ∷ tierOf 1 0 30 30 0 1 ∷ tierOf 2 0 10 10 0 2 ∷ tierOf 2 1 40 40 1 2 ∷ [])) (record { image = replicate 800 9; flags = replicate 32 true })
 
--- from the three schemas' tiers: their row numbers and intervals
+-- of the three schemas' tiers: their row numbers and intervals; of a fourth schema: none
 unfoldable pub numbered : Lent → List (List ℕ)
 numbered l =
     (rowNo l 0 0 ∷ rowNo l 0 1 ∷ rowNo l 1 0 ∷ rowNo l 2 0 ∷ rowNo l 2 1 ∷ []) ∷ map (λ r. r .interval) (tiers l 0) ∷ map (λ r. r .interval) (tiers l 1)
@@ -103,6 +102,7 @@ pub numbered-are : numbered three ≡ (0 ∷ 1 ∷ 2 ∷ 3 ∷ 4 ∷ []) ∷ (10
 unfolding Cases-defs three numbered
 numbered-are = refl
 
+-- a row's flag is its own, by its number
 pub own-flag : ring (record { image = firstWrapped; flags = before }) 1 .wrapped ∷ ring (record { image = firstWrapped; flags = before }) 2 .wrapped ∷ [] ≡ true ∷ false ∷ []
 unfolding Cases-defs before
 own-flag = refl

@@ -1,9 +1,9 @@
 -- A reader's whole steps, readers made by hand that can't be read, and a query's whole answer of a row that is not the first. By computation. Assumes nothing.
-use Prim.Native.Nat.{ℕ, zero, suc, _+_, _-_, _*_, _^_}
+use Prim.Native.Nat.{ℕ, _+_, _-_}
 use mathlib.Core.Path.{_≡_, refl}
 use mathlib.Core.Bool.{Bool, true, false}
-use mathlib.Core.List.{List, [], _∷_, _++_, map}
-use lib.ListN.{length, take, drop, replicate}
+use mathlib.Core.List.{List, [], _∷_, _++_}
+use lib.ListN.{take, drop, replicate}
 use Rattle.model.specs.declared.Row.{Row}
 use Rattle.model.specs.declared.Refusal.the-variants.{InvalidTier}
 use Rattle.model.specs.declared.Place.{Place}
@@ -14,7 +14,7 @@ use Rattle.model.specs.declared.Stepped.{Stepped}
 use Rattle.model.specs.declared.End.{End}
 use Rattle.model.specs.declared.End.the-variants.{At, Missing}
 use Rattle.model.specs.declared.Queried.the-variants.{Answer, Refused}
-use Rattle.model.specs.Bytes.{bytes, put, part}
+use Rattle.model.specs.Bytes.{bytes, put}
 use Rattle.model.specs.Layout.{freshValue, freshSlab}
 use Rattle.model.specs.Ring.{Ring}
 use Rattle.model.specs.Read.{Reader, step, pointsOf, full, incomplete, bothEnds}
@@ -41,7 +41,7 @@ unfoldable pub Readings-defs : Unit {0}
 unfolding Cases-defs slab3 stepAt then
 Readings-defs = tt
 
--- a point, and the place behind it; NaN is passed over, round the ring; the last slot left is handed out, and then there is none; at the end the place is behind
+-- a point, and the place after it; NaN is passed over, round the ring; the last slot left is handed out, and then there is none; at the end the place is after
 -- the slots passed over, with none left
 pub steps-are :
     stepAt slab3 1 1 3 ∷ stepAt slab3 1 2 2 ∷ stepAt slab3 0 2 1 ∷ stepAt slab3 1 2 1 ∷ stepAt slab3 1 1 0 ∷ []
@@ -57,7 +57,7 @@ pub ranges-are :
 unfolding Readings-defs
 ranges-are = refl
 
--- by hand: column = series; slot = slots; one slot more left than there are; a slab one byte too short, one in the header, an empty one. Each is at its end, its slot as it was
+-- by hand: column = series; slot = slots; one slot more left than there are; a slab one byte too short, one that ends in the header, an empty one. Each is at its end, its slot as it was
 pub by-hand :
     stepAt slab3 2 1 3 ∷ stepAt slab3 1 3 3 ∷ stepAt slab3 1 1 4 ∷ stepAt (take 143 slab3) 1 1 3 ∷ stepAt (take 63 slab3) 1 1 3 ∷ stepAt [] 0 1 3 ∷ []
     ≡ then Finished 1 0 ∷ then Finished 3 0 ∷ then Finished 1 0 ∷ then Finished 1 0 ∷ then Finished 1 0 ∷ then Finished 1 0 ∷ []

@@ -1,19 +1,19 @@
 -- What a recording accepts, stores and leaves: patterns of NaN, stamps, batches, two schemas with different max series. By computation. Assumes nothing.
-use Prim.Native.Nat.{ℕ, zero, suc, _+_, _-_, _*_, _^_}
+use Prim.Native.Nat.{ℕ, _+_, _-_, _^_}
 use mathlib.Core.Path.{_≡_, refl}
 use mathlib.Core.Bool.{Bool, true, false}
-use mathlib.Core.List.{List, [], _∷_, _++_, map}
-use lib.ListN.{length, take, drop, replicate}
+use mathlib.Core.List.{List, [], _∷_, _++_}
+use lib.ListN.{replicate}
 use Rattle.model.specs.declared.Row.{Row}
 use Rattle.model.specs.declared.End.{End}
-use Rattle.model.specs.declared.End.the-variants.{At, Missing}
-use Rattle.model.specs.Bytes.{bytes, put}
-use Rattle.model.specs.Layout.{freshValue, freshHead, freshSlab}
-use Rattle.model.specs.Ring.{Ring, ColumnValue, write, stamp, cell, cursor, slotOf}
+use Rattle.model.specs.declared.End.the-variants.{At}
+use Rattle.model.specs.Bytes.{put}
+use Rattle.model.specs.Layout.{freshHead, freshSlab}
+use Rattle.model.specs.Ring.{Ring, ColumnValue, write, stamp}
 use Rattle.model.specs.Lent.{Lent, creation, ring}
-use Rattle.model.specs.Record.{Entry, entries, handleOk}
-use Rattle.model.specs.Store.{Call, Reply, Done, call, after, replies, recordCall, batchCall, queryCall, autoCall, consolidateCall, refused, done, wrote, read}
-use Rattle.model.specs.Cases.{Cases-defs, tierOf, tier, planOf, num, infinity, Question, story, Shown, refusal, accepted, writes, points, Result, last, Case, _gives_, Holds, rec, end64, everything, at}
+use Rattle.model.specs.Record.{Entry, entries}
+use Rattle.model.specs.Store.{Call, Reply, Done, call, after, recordCall, batchCall, queryCall, autoCall, consolidateCall, refused, done, wrote, read}
+use Rattle.model.specs.Cases.{Cases-defs, tierOf, tier, planOf, num, infinity, Question, story, Shown, accepted, writes, points, Result, last, Case, _gives_, Holds, rec, end64, everything, at}
 
 -- ---- patterns: NaN by its exponent and a fraction that is not zero, whatever sign and quiet bit
 
@@ -82,7 +82,7 @@ pub columns-are :
 unfolding Cases-defs uneven number entryOf on
 columns-are = refl
 
--- any entry of a batch is judged, the first too: 11, 12
+-- any entry of a batch is judged, the first too: 11, 12; a batch's stamp may be 2^63 - 1, not 2^63
 pub first-entries :
     on uneven (batchCall (entryOf 1 3 0 ∷ entryOf 1 0 0 ∷ []) 10 ∷ batchCall (entryOf 1 0 infinity ∷ entryOf 1 1 0 ∷ []) 10 ∷ batchCall (entryOf 2 0 0 ∷ []) 10
     ∷ batchCall (entryOf 1 0 0 ∷ entryOf 1 1 infinity ∷ entryOf 1 2 0 ∷ []) 10 ∷ batchCall (entryOf 1 0 0 ∷ []) (2 ^ 63 - 1) ∷ batchCall (entryOf 1 0 0 ∷ []) (2 ^ 63) ∷ [])
@@ -109,7 +109,7 @@ pub empty-rings : rings (after uneven (recordCall 0 0 (num 5) 10 ∷ batchCall [
 unfolding Cases-defs uneven rings begun
 empty-rings = refl
 
--- a batch for schema 1 alone leaves schema 0's ring, bytes and flag; its own has stamp and values, each in its column, and the third column as it was
+-- a batch for schema 1 alone leaves schema 0's ring, bytes and flag; its own has stamp and values, each in its column, and column 1 as it was
 pub alone-are :
     rings (after uneven (recordCall 0 0 (num 5) 10 ∷ batchCall (entryOf 1 2 (num 7) ∷ entryOf 1 0 (num 6) ∷ []) 20 ∷ []))
     ≡ begun ∷ record { slab = put 8 (put 8 (put 8 (freshSlab 7 2 3 10) 76 20) 92 (num 6)) 124 (num 7); wrapped = false } ∷ []
@@ -137,7 +137,7 @@ pub slow-write :
 unfolding Cases-defs slow
 slow-write = refl
 
--- the same slot again: no wrap; a lower one: a wrap, and the cursor goes back
+-- the same slot again: no wrap; a lower one: a wrap, and the cursor goes back; a higher one: no wrap; with the flag set a lower one: it stays set
 unfoldable pub writes3 : Bool → ℕ → Ring
 writes3 b t = write (record { slab = put 4 (freshSlab 7 3 1 10) 32 1; wrapped = b }) [] t
 
@@ -149,7 +149,7 @@ pub cursors-are :
 unfolding Cases-defs writes3
 cursors-are = (refl, refl, refl, refl)
 
--- the header of a slab of 300 slots alone, its cursor at c, after a write: the cursor is more than a byte
+-- the header alone of a slab of 300 slots, its cursor at c: the cursor is more than a byte. The stamp falls past the end
 unfoldable pub header300 : ℕ → List ℕ
 header300 c = put 4 (freshHead 7 300 1 10) 32 c
 

@@ -1,5 +1,5 @@
 -- Runs beyond the rows of More: what a run answers, its marks and flags, and what stands at some places of the image after it. By computation. Assumes nothing.
-use Prim.Native.Nat.{ℕ, zero, suc, _+_, _-_, _*_, _^_}
+use Prim.Native.Nat.{ℕ, _-_, _^_}
 use mathlib.Core.Path.{_≡_, refl}
 use mathlib.Core.Bool.{Bool, true, false, _&&_, cond}
 use mathlib.Core.List.{List, [], _∷_, map}
@@ -16,7 +16,8 @@ use Rattle.model.specs.Image.{rows, rowCount}
 use Rattle.model.specs.Lent.{Lent, creation}
 use Rattle.model.specs.Record.{Entry}
 use Rattle.model.specs.Consolidate.{Run, run}
-use Rattle.model.specs.Store.{Call, Reply, call, after, replies, recordCall, batchCall, queryCall, consolidateCall, refused, done, wrote, outcomeReply, consolidatedReply, queriedReply}
+use Rattle.model.specs.Store.{Call, Reply, after, replies, recordCall, batchCall, queryCall, consolidateCall, refused, done, wrote, outcomeReply, consolidatedReply, queriedReply}
+use Rattle.demand.specs.Instance.{sameNumbers}
 use Rattle.model.specs.Cases.{Cases-defs, tierOf, tier, planOf, num, infinity, fresh, rec}
 
 -- a run's refusal or 0, its writes, the marks and flags of the rows, and the words at some places of the image
@@ -36,16 +37,10 @@ left u places = record {
   words = map (get 8 (u .lent .image)) places;
 }
 
--- the same, as a test, so that a claim that fails is not computed again for its message
-unfoldable pub sameNumbers : List ℕ → List ℕ → Bool
-sameNumbers [] [] = true
-sameNumbers [] (y ∷ ys) = false
-sameNumbers (x ∷ xs) [] = false
-sameNumbers (x ∷ xs) (y ∷ ys) = eqb x y && sameNumbers xs ys
-
 unfoldable pub bits : List Bool → List ℕ
 bits bs = map (λ b. cond b 1 0) bs
 
+-- the same left, as a test, so that a claim that fails is not computed again for its message
 unfoldable pub alike : Left → Left → Bool
 alike x y =
     eqb (x .refusal) (y .refusal) && eqb (x .count) (y .count) && sameNumbers (x .marks) (y .marks) && sameNumbers (bits (x .flags)) (bits (y .flags))
@@ -58,7 +53,7 @@ with l o w = record { image = put 8 (l .image) o w; flags = l .flags }
 unfoldable pub both : ℕ → ℕ → ℕ → Call
 both t a b = batchCall (record { schema = 0; column = 0; value = a } ∷ record { schema = 0; column = 1; value = b } ∷ []) t
 
--- the greatest number: twice it overflows
+-- the greatest finite number: twice it overflows
 unfoldable pub greatest : ℕ
 greatest = 0x7fef_ffff_ffff_ffff
 
@@ -94,10 +89,10 @@ pub three-windows :
 unfolding Runs-defs
 three-windows = tt
 
--- stamps that fall in ring order, 40, 90, 60, 110: no window is passed over, and they are written in rising order
+-- stamps that fall in ring order, 40, 90, 60, 110: no window is passed over, and they are written in rising order, so that the destination's flag stays false
 pub falling-stamps :
-    T (alike (left (run (after (fresh (tier 0 10 40 0 ∷ tier 1 20 80 1 ∷ [])) (rec 40 1 ∷ rec 90 1 ∷ rec 60 1 ∷ rec 110 1 ∷ []))) (400 ∷ 408 ∷ 416 ∷ 424 ∷ []))
-    (record { refusal = 0; count = 4; marks = 110 ∷ 0 ∷ []; flags = false ∷ true ∷ []; words = 80 ∷ 100 ∷ 40 ∷ 60 ∷ [] }))
+    T (alike (left (run (after (fresh (tier 0 10 40 0 ∷ tier 1 20 160 1 ∷ [])) (rec 40 1 ∷ rec 90 1 ∷ rec 60 1 ∷ rec 110 1 ∷ []))) (416 ∷ 424 ∷ 432 ∷ 440 ∷ []))
+    (record { refusal = 0; count = 4; marks = 110 ∷ 0 ∷ []; flags = false ∷ false ∷ []; words = 40 ∷ 60 ∷ 80 ∷ 100 ∷ [] }))
 unfolding Runs-defs
 falling-stamps = tt
 
@@ -147,7 +142,7 @@ pub earlier-writes-stay :
 unfolding Runs-defs
 earlier-writes-stay = tt
 
--- a refusal in the first of two pairs ends the run: the second pair finds a sample at 40, and is untouched
+-- a refusal in the first of two pairs ends the run: the second pair would find a sample at 40, but is not reached
 pub first-pair-refused :
     T (alike (left (run (after (fresh (tier 0 10 20 0 ∷ tier 1 20 40 5 ∷ tier 2 40 40 1 ∷ [])) (both 40 (num 1) greatest ∷ both 50 (num 1) greatest ∷ []))) (416 ∷ 432 ∷ 448 ∷ 536 ∷ []))
     (record { refusal = 12; count = 1; marks = 0 ∷ 0 ∷ 0 ∷ []; flags = false ∷ false ∷ false ∷ []; words = 40 ∷ num 2 ∷ freshValue ∷ 0 ∷ [] }))
@@ -186,6 +181,16 @@ pub two-schemas :
     (record { refusal = 0; count = 2; marks = 60 ∷ 0 ∷ 60 ∷ 0 ∷ []; flags = replicate 4 false; words = 60 ∷ num 3 ∷ 60 ∷ num 1 ∷ [] }))
 unfolding Runs-defs
 two-schemas = tt
+
+-- schemas ascend: schema 0's coarser tier has no function, so schema 1's pair is not reached
+pub first-schema-refused :
+    T (alike (left (run (after
+    (creation (planOf 2 (tierOf 0 0 10 10 0 2 ∷ tierOf 0 1 20 20 0 2 ∷ tierOf 1 0 10 10 0 4 ∷ tierOf 1 1 30 30 6 4 ∷ []))
+    (record { image = replicate 720 0; flags = replicate 32 true }))
+    (batchCall (record { schema = 0; column = 0; value = num 3 } ∷ record { schema = 1; column = 3; value = num 4 } ∷ []) 60 ∷ []))) (456 ∷ 680 ∷ 712 ∷ []))
+    (record { refusal = 16; count = 0; marks = replicate 4 0; flags = replicate 4 false; words = 0 ∷ 0 ∷ freshValue ∷ [] }))
+unfolding Runs-defs
+first-schema-refused = tt
 
 -- ---- two runs, by the present start of the reading
 

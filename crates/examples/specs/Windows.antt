@@ -2,8 +2,8 @@
 use Prim.Native.Nat.{ℕ}
 use mathlib.Core.Path.{refl}
 use mathlib.Core.List.{List, [], _∷_}
-use Rattle.model.specs.declared.ConsolidationFn.the-variants.{Average, Min, Max, Last, Sum, Count}
-use Rattle.model.specs.Cases.{Cases-defs, num, infinity, window, value, empty, nothingFinite, Case, _gives_, Holds}
+use Rattle.model.specs.declared.ConsolidationFn.the-variants.{Average, Min, Max, Sum, Count}
+use Rattle.model.specs.Cases.{Cases-defs, num, window, value, empty, nothingFinite, Case, _gives_, Holds}
 
 unfoldable pub minusOne : ℕ
 minusOne = 0xbff0_0000_0000_0000

@@ -172,6 +172,7 @@ cases =
     -- D
     ∷ (story (ring10 4) (rec 10 1 ∷ rec 20 2 ∷ rec 30 3 ∷ rec 40 4 ∷ everything 0 ∷ [])
     gives last (true ∷ []) (0 ∷ []) (points 0 (At 10) (At 40) 0 end64 true (at 10 1 ∷ at 20 2 ∷ at 30 3 ∷ at 40 4 ∷ [])))
+    -- beside D: another column at the same stamp leaves this column's cell
     ∷ (story (ring10 4) (rec 10 1 ∷ recordCall 0 1 (num 2) 10 ∷ everything 0 ∷ [])
     gives last (false ∷ []) (0 ∷ []) (points 0 (At 10) (At 10) 0 end64 true (at 10 1 ∷ [])))
     -- E
@@ -194,9 +195,10 @@ cases =
     ∷ (story two (rec 30 1 ∷ rec 40 2 ∷ rec 50 6 ∷ consolidateCall ∷ []) gives last (false ∷ false ∷ []) (50 ∷ 0 ∷ []) (writes 1))
     ∷ (story two (rec 30 1 ∷ rec 40 2 ∷ rec 50 6 ∷ consolidateCall ∷ everything 1 ∷ [])
     gives last (false ∷ false ∷ []) (50 ∷ 0 ∷ []) (points 1 (At 30) (At 30) 0 end64 true (at 30 3 ∷ [])))
-    ∷ (story two (rec 30 1 ∷ rec 40 2 ∷ rec 50 6 ∷ rec 60 5 ∷ consolidateCall ∷ []) gives last (false ∷ false ∷ []) (60 ∷ 0 ∷ []) (writes 2))
     ∷ (story two (rec 30 1 ∷ rec 40 2 ∷ rec 50 6 ∷ consolidateCall ∷ rec 60 5 ∷ consolidateCall ∷ rec 70 7 ∷ rec 80 9 ∷ consolidateCall ∷ everything 1 ∷ [])
     gives last (false ∷ false ∷ []) (80 ∷ 0 ∷ []) (points 1 (At 30) (At 60) 0 end64 true (at 30 3 ∷ at 60 8 ∷ [])))
+    -- beside J: two windows in one run are two writes
+    ∷ (story two (rec 30 1 ∷ rec 40 2 ∷ rec 50 6 ∷ rec 60 5 ∷ consolidateCall ∷ []) gives last (false ∷ false ∷ []) (60 ∷ 0 ∷ []) (writes 2))
     -- K
     ∷ (story two (rec 10 1 ∷ consolidateCall ∷ []) gives last (false ∷ false ∷ []) (0 ∷ 0 ∷ []) (refusal 13))
     -- L

@@ -1,29 +1,24 @@
 -- The third demand's words, computed from a story and from short lists: which plans are suited, what is an offset, what the calls did, what is due and
 -- promised; and what the statement says of the story. Assumes nothing.
-use Prim.Native.Nat.{ℕ, zero, suc, _+_, _-_, _*_, _^_, _<_}
+use Prim.Native.Nat.{ℕ, _-_, _^_, _<_}
 use mathlib.Core.Path.{_≡_, refl}
 use mathlib.Core.Bool.{Bool, true, false, _&&_}
 use mathlib.Core.List.{List, [], _∷_, map}
 use lib.ListN.{replicate}
-use lib.Dec.{T, eqb, lit<}
-use lib.IntN.{pos, negsuc}
-use lib.Ieee.{binary64, ofBits, toBits, ofInt}
+use lib.Dec.{T, lit<}
+use lib.IntN.{pos}
+use lib.Ieee.{binary64, ofBits}
 use Rattle.model.specs.declared.Row.{Row}
 use Rattle.model.specs.declared.Point.{Point}
 use Rattle.model.specs.Image.{rows, rowCount, schemas, createCheck}
 use Rattle.model.specs.Lent.{Lent}
 use Rattle.model.specs.Record.{Entry}
 use Rattle.model.specs.Store.{Call, recordCall, batchCall, consolidateCall}
-use Rattle.demand.specs.Demand.{Demand-defs, Sample, Event, took, ran, eventsOf, samplesIn, suited, supposed, isOffset, used, newestWindows, within, each}
-use Rattle.demand.specs.Demand.{Situation, finest, coarsest, events, created, afterRun, history, samples, answers, tierInterval, due, ThirdDemand}
+use Rattle.demand.specs.Demand.{Demand-defs, Sample, Event, ran, eventsOf, samplesIn, suited, supposed, isOffset, used, newestWindows, within, each}
+use Rattle.demand.specs.Demand.{Situation, finest, coarsest, events, afterRun, history, samples, tierInterval, due, ThirdDemand}
 use Rattle.model.specs.Cases.{Cases-defs, tier, plan, num, infinity, fresh}
-
--- -n - 1
-unfoldable pub minus : ℕ → ℕ
-minus n = toBits binary64 (ofInt binary64 (negsuc n))
-
-unfoldable pub sample : ℕ → ℕ → ℕ → Event
-sample t c v = took (record { column = c; stamp = t; value = v })
+use Rattle.demand.specs.Instance.{minus, sample, sameNumbers}
+use Rattle.supposition.specs.Needed.{kept}
 
 -- ---- plans
 
@@ -41,7 +36,7 @@ suited-are = refl
 
 -- ---- values
 
--- -2^30 is an offset, -2^30 - 1 is not; no NaN, no infinity, no number above 64 bits, no -0.5
+-- -2^30 is an offset, -2^30 - 1 is not; no NaN, no infinity, no pattern above 64 bits, no -0.5
 pub offsets-are :
     isOffset (minus 1_073_741_823) ∷ isOffset (minus 1_073_741_824) ∷ isOffset 0x7ff8_0000_0000_0000 ∷ isOffset 0x7ff0_0000_0000_0000 ∷ isOffset 0xfff0_0000_0000_0000
     ∷ isOffset (2 ^ 64) ∷ isOffset 0xbfe0_0000_0000_0000 ∷ []
@@ -74,8 +69,8 @@ pub refused-run : eventsOf (fresh (tier 0 10 20 0 ∷ tier 1 20 20 0 ∷ [])) co
 unfolding Cases-defs Demand-defs
 refused-run = refl
 
--- nothing at all is not supposed, nor is a first stamp of 0
-pub not-supposed : supposed 10 20 [] ∷ supposed 10 20 (sample 0 0 (num 1) ∷ sample 10 0 (num 1) ∷ ran ∷ []) ∷ [] ≡ false ∷ false ∷ []
+-- a run before any sample is not supposed, nor is a first stamp of 0
+pub not-supposed : supposed 10 20 (ran ∷ []) ∷ supposed 10 20 (sample 0 0 (num 1) ∷ sample 10 0 (num 1) ∷ ran ∷ []) ∷ [] ≡ false ∷ false ∷ []
 unfolding Cases-defs Demand-defs sample
 not-supposed = refl
 
@@ -103,13 +98,6 @@ story k = record {
   tier = k;
 }
 
--- the same numbers, as a test, so that a claim that fails is not computed again for its message
-unfoldable pub sameNumbers : List ℕ → List ℕ → Bool
-sameNumbers [] [] = true
-sameNumbers [] (y ∷ ys) = false
-sameNumbers (x ∷ xs) [] = false
-sameNumbers (x ∷ xs) (y ∷ ys) = eqb x y && sameNumbers xs ys
-
 unfoldable pub intervals : Situation → List ℕ
 intervals s = finest s ∷ coarsest s ∷ tierInterval s ∷ []
 
@@ -123,7 +111,7 @@ pub due-are :
 unfolding Cases-defs Demand-defs minus sameNumbers calls story
 due-are = tt
 
--- after samples at 20, 30 and 40 the window at 40 is still open, whatever the tier's interval
+-- after samples at 20, 30 and 40 the window of 20 ns at 40 is still open: the finest interval is added to the greatest stamp, not the tier's
 pub open-due :
     T (sameNumbers (due (record {
       plan = plan (tier 0 10 20 0 ∷ tier 1 20 40 1 ∷ []);
@@ -138,9 +126,6 @@ unfolding Cases-defs Demand-defs sameNumbers
 open-due = tt
 
 -- the supposition is met, and the promise is kept at each tier
-unfoldable pub kept : Situation → Bool
-kept s = each (s .column) (tierInterval s) (s .tier) (samples s) (due s) (answers s)
-
 pub met : T (supposed (finest (story 2)) (coarsest (story 2)) (history (story 2)))
 unfolding Cases-defs Demand-defs minus calls story
 met = tt
