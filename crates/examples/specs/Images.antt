@@ -88,24 +88,11 @@ highest-are = refl
 
 -- ---- an image of two schemas that differ in everything, to the byte
 
-unfoldable pub hashed : ℕ → Row → Row
-hashed h r = record {
-  schema = r .schema;
-  tier = r .tier;
-  interval = r .interval;
-  retention = r .retention;
-  function = r .function;
-  series = r .series;
-  offset = 0;
-  len = 0;
-  mark = 0;
-  hash = h;
-}
-
--- schema 0: 10 for 15, one series. Schema 1: 20 for 45 into 40 for 40, three series
+-- schema 0: 10 for 15, one series. Schema 1: 20 for 45 into 40 for 40, three series. The rows' hashes stand at 88, 152 and 216
 unfoldable pub mixedPlan : List ℕ
 mixedPlan =
-    planOf 2 (hashed 0x1122_3344_5566_7788 (tierOf 0 0 10 15 0 1) ∷ hashed 0x99aa_bbcc_ddee_ff01 (tierOf 1 0 20 45 0 3) ∷ hashed 0x99aa_bbcc_ddee_ff01 (tierOf 1 1 40 40 6 3) ∷ [])
+    put 8 (put 8 (put 8 (planOf 2 (tierOf 0 0 10 15 0 1 ∷ tierOf 1 0 20 45 0 3 ∷ tierOf 1 1 40 40 6 3 ∷ []))
+    88 0x1122_3344_5566_7788) 152 0x99aa_bbcc_ddee_ff01) 216 0x99aa_bbcc_ddee_ff01
 
 unfoldable pub mixed : Lent
 mixed = creation mixedPlan (record { image = replicate 559 9; flags = replicate 32 true })
@@ -144,7 +131,7 @@ mixedBytes =
     ++ replicate 3 9
 
 unfoldable pub Images-defs : Unit {0}
-unfolding Cases-defs hashed mixedPlan mixed mixedToo one other w4 w8 values mixedBytes
+unfolding Cases-defs mixedPlan mixed mixedToo one other w4 w8 values mixedBytes
 Images-defs = tt
 
 pub mixed-is : (mixed .image ≡ mixedBytes) × (mixed .flags ≡ false ∷ false ∷ false ∷ replicate 29 true) × (mixedToo .image ≡ mixedBytes)
