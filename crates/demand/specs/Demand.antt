@@ -1,5 +1,5 @@
--- The third demand, stated: the words of document 01's "Words of the third demand", each with its definition, and the claim about lists of calls. Its
--- proof stands in the crate fidelity. Assumes nothing.
+-- The third demand as request 2026-01 restates it: the words of document 01's "Words of the third demand" and of the request, each with its definition, and the
+-- claim about lists of calls. Its proof stands in the crate fidelity. Assumes nothing.
 use Prim.Native.Nat.{ℕ, zero, suc, _+_, _-_, _*_, _/_, _%_, _^_, _<_, min}
 use mathlib.Core.Path.{_≡_}
 use mathlib.Core.Bool.{Bool, true, false, not, _&&_, _||_, cond}
@@ -32,10 +32,10 @@ unfoldable pub lastInterval : Row → List Row → ℕ
 lastInterval p [] = p .interval
 lastInterval p (q ∷ rs) = lastInterval q rs
 
--- each ring's slots span the interval D
+-- each ring's slots span two intervals D
 unfoldable pub spanning : ℕ → List Row → Bool
 spanning D [] = true
-spanning D (r ∷ rs) = leb D (rowSlots r * r .interval) && spanning D rs
+spanning D (r ∷ rs) = leb (2 * D) (rowSlots r * r .interval) && spanning D rs
 
 unfoldable pub suited : List Row → Bool
 suited [] = false
@@ -139,16 +139,14 @@ unfoldable pub gapless : ℕ → ℕ → ℕ → ℕ → List Sample → Bool
 gapless c d t zero xs = true
 gapless c d t (suc n) xs = eqb (count (isAt c t) xs) 1 && gapless c d (t + d) n xs
 
--- p is the stamp of a coarsest interval's last samples: its end less the finest interval
-unfoldable pub endsInterval : ℕ → ℕ → ℕ → Bool
-endsInterval d D p = ltb 0 p && eqb ((p + d) % D) 0
-
--- runs stand just after each coarsest interval's last sample, and nowhere else. p is the last sample's stamp so far, 0 before the first; b says that a run
--- has followed it
-unfoldable pub scheduled : ℕ → ℕ → ℕ → Bool → List Event → Bool
-scheduled d D p b [] = true
-scheduled d D p b (took x ∷ es) = cond (eqb (x .stamp) p) (not b) (not (endsInterval d D p) || b) && scheduled d D (x .stamp) false es
-scheduled d D p b (ran ∷ es) = endsInterval d D p && scheduled d D p true es
+-- runs follow a tick once all its samples are in, at least one in each coarsest interval. p is the last sample's stamp so far, q the stamp of the tick that the
+-- last run followed; 0 before the first. No sample of a tick comes after a run that follows it; the first sample of a later coarsest interval comes after a
+-- run in the interval of p
+unfoldable pub scheduled : ℕ → ℕ → ℕ → List Event → Bool
+scheduled D p q [] = true
+scheduled D p q (took x ∷ es) =
+    cond (eqb (x .stamp) p) (not (eqb q p)) (eqb (x .stamp / D) (p / D) || eqb (q / D) (p / D)) && scheduled D (x .stamp) q es
+scheduled D p q (ran ∷ es) = ltb 0 p && scheduled D p p es
 
 -- with finest interval d and coarsest D: the first stamp is a nonzero multiple of D; stamps never fall; each sample is a whole offset at a multiple of d,
 -- and its column has one sample at every tick; the runs are on schedule
@@ -157,7 +155,7 @@ supposed d D es =
     let xs = samplesIn es in
     ltb 0 (firstOf xs) && eqb (firstOf xs % D) 0 && ascending 0 xs
     && all (λ x. isOffset (x .value) && eqb (x .stamp % d) 0 && gapless (x .column) d (firstOf xs) (ticks d xs) xs) xs
-    && scheduled d D 0 false es
+    && scheduled D 0 0 es
 
 -- ---- the windows of a tier, and a point's distance from the exact mean
 
@@ -166,13 +164,17 @@ unfoldable pub starts : ℕ → ℕ → ℕ → List ℕ
 starts i t zero = []
 starts i t (suc n) = t ∷ starts i (t + i) n
 
--- how many windows of interval i are closed: they count from the first sample's stamp, and end at most at the greatest stamp plus d
-unfoldable pub closed : ℕ → ℕ → List Sample → ℕ
-closed d i xs = (lastOf xs + d - firstOf xs) / i
+-- how many windows of interval i have begun: they count from the first sample's stamp, and start at most at the greatest. All are closed but, at most, the last
+unfoldable pub begun : ℕ → List Sample → ℕ
+begun i xs = suc ((lastOf xs - firstOf xs) / i)
 
 -- the starts of the newest of them that n slots can hold, ascending
-unfoldable pub newestWindows : ℕ → ℕ → ℕ → List Sample → List ℕ
-newestWindows d i n xs = let k = min (closed d i xs) n in starts i (firstOf xs + i * (closed d i xs - k)) k
+unfoldable pub newestWindows : ℕ → ℕ → List Sample → List ℕ
+newestWindows i n xs = let k = min (begun i xs) n in starts i (firstOf xs + i * (begun i xs - k)) k
+
+-- the window of interval i from w on is closed: its end is at most the greatest stamp plus the finest interval d
+unfoldable pub isClosed : ℕ → ℕ → List Sample → ℕ → Bool
+isClosed d i xs w = leb (w + i) (lastOf xs + d)
 
 -- the samples of column c with a stamp in the window from w on, i long, its end left out
 unfoldable pub inWindow : ℕ → ℕ → ℕ → Sample → Bool
@@ -189,13 +191,13 @@ within k nan z n = false
 within k (inf s) z n = false
 within k (fin s m e) z n = leb (natAbs (signed s (m * up e) *ℤ pos n -ℤ z *ℤ pos (down e)) * 4096) (k * (n * down e))
 
--- one point for each window, stamped with its start, within k / 4,096 of its samples' exact mean
-unfoldable pub each : ℕ → ℕ → ℕ → List Sample → List ℕ → List Point → Bool
-each c i k xs [] [] = true
-each c i k xs [] (p ∷ ps) = false
-each c i k xs (w ∷ ws) [] = false
-each c i k xs (w ∷ ws) (p ∷ ps) =
-    eqb (p .stamp) w && within k (ofBits binary64 (p .value)) (sumOf (inWindow c i w) xs) (count (inWindow c i w) xs) && each c i k xs ws ps
+-- one point for each window, stamped with its start; where the window is closed, within k / 4,096 of its samples' exact mean. d is the finest interval
+unfoldable pub each : ℕ → ℕ → ℕ → ℕ → List Sample → List ℕ → List Point → Bool
+each d c i k xs [] [] = true
+each d c i k xs [] (p ∷ ps) = false
+each d c i k xs (w ∷ ws) [] = false
+each d c i k xs (w ∷ ws) (p ∷ ps) =
+    eqb (p .stamp) w && (not (isClosed d i xs w) || within k (ofBits binary64 (p .value)) (sumOf (inWindow c i w) xs) (count (inWindow c i w) xs)) && each d c i k xs ws ps
 
 -- a query's points are what its reader hands out up to its end
 unfoldable pub handedOut : Reply → List Point
@@ -248,10 +250,11 @@ unfoldable pub tierInterval : Situation → ℕ
 tierInterval s = rowAt (s .plan) (s .tier) .interval
 
 unfoldable pub due : Situation → List ℕ
-due s = newestWindows (finest s) (tierInterval s) (rowSlots (rowAt (s .plan) (s .tier))) (samples s)
+due s = newestWindows (tierInterval s) (rowSlots (rowAt (s .plan) (s .tier))) (samples s)
 
 -- For every fresh store of one schema with a suited plan and every list of calls up to a run: if the supposition holds of what they did, and the calls
--- between neither record nor run, then the query of a used column at any tier gives one point for each window that is due.
+-- between neither record nor run, then the query of a used column at any tier gives one point for each window that is due; that of a closed
+-- window is within its bound.
 unfoldable pub ThirdDemand : Type 0
 ThirdDemand =
     (s : Situation)
@@ -259,9 +262,9 @@ ThirdDemand =
     → T (supposed (finest s) (coarsest s) (history s))
     → events (afterRun s) (s .between) ≡ []
     → T (used (s .column) (samples s)) → s .tier < rowCount (s .plan)
-    → T (each (s .column) (tierInterval s) (s .tier) (samples s) (due s) (answers s))
+    → T (each (finest s) (s .column) (tierInterval s) (s .tier) (samples s) (due s) (answers s))
 
 -- names every definition of this module, for a proof by computation: `unfolding Demand-defs`
 unfoldable pub Demand-defs : Unit {0}
-unfolding ratioOk averaging lastInterval spanning suited ifAccepted eventsOf events samplesIn signed wholePart wholeWithin isOffset firstOf lastOf ascending all count isAt used ticks gapless endsInterval scheduled supposed starts closed newestWindows inWindow sumOf within each handedOut finest coarsest created upToRun afterRun history samples answers tierInterval due
+unfolding ratioOk averaging lastInterval spanning suited ifAccepted eventsOf events samplesIn signed wholePart wholeWithin isOffset firstOf lastOf ascending all count isAt used ticks gapless scheduled supposed starts begun newestWindows isClosed inWindow sumOf within each handedOut finest coarsest created upToRun afterRun history samples answers tierInterval due
 Demand-defs = tt

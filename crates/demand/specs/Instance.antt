@@ -14,14 +14,14 @@ use Rattle.model.specs.Image.{rows, createCheck}
 use Rattle.model.specs.Lent.{Lent}
 use Rattle.model.specs.Record.{Entry}
 use Rattle.model.specs.Store.{Call, call, after, recordCall, batchCall, queryCall, autoCall, consolidateCall}
-use Rattle.demand.specs.Demand.{Demand-defs, Situation, Event, took, ran, samplesIn, suited, supposed, history, newestWindows, each, answers, used, events, created, upToRun, afterRun, handedOut}
+use Rattle.demand.specs.Demand.{Demand-defs, Situation, Event, took, ran, samplesIn, suited, scheduled, supposed, history, newestWindows, each, answers, used, events, created, upToRun, afterRun, handedOut}
 use Rattle.model.specs.Cases.{Cases-defs, tierOf, tier, plan, num, infinity, at}
 
 -- ---- the list
 
--- 10, 20 and 40 ns; 4, 2 and 1 slots
+-- 10, 20 and 40 ns; 8, 4 and 2 slots
 unfoldable pub tiers : List Row
-tiers = tier 0 10 40 0 ∷ tier 1 20 40 1 ∷ tier 2 40 40 1 ∷ []
+tiers = tier 0 10 80 0 ∷ tier 1 20 80 1 ∷ tier 2 40 80 1 ∷ []
 
 -- -n - 1
 unfoldable pub minus : ℕ → ℕ
@@ -34,18 +34,20 @@ minusZero = 0x8000_0000_0000_0000
 unfoldable pub both : ℕ → ℕ → ℕ → Call
 both t a b = batchCall (record { schema = 0; column = 1; value = a } ∷ record { schema = 0; column = 0; value = b } ∷ []) t
 
--- two coarsest intervals, the run after the second left to Situation; refused records, a query, an empty batch and a second run stand between
+-- two runs after the first tick of the first coarsest interval, one after the last of the second, as far behind them as it may be; the run after the third
+-- tick of the third, in the middle of a window of 20 and of one of 40, is left to Situation. Refused records, a query and an empty batch stand between
 unfoldable pub calls : List Call
 calls =
-    both 40 (num 1) minusZero ∷ recordCall 0 0 (num 3) 50 ∷ recordCall 0 1 (num 3) 0 ∷ recordCall 0 1 (minus 3) 50 ∷ both 60 (num 7) (num 7)
-    ∷ both 70 (num 2) (minus 0) ∷ queryCall 0 0 0 0 9 ∷ consolidateCall ∷ consolidateCall ∷ batchCall [] 0
-    ∷ recordCall 0 0 (num 2) 80 ∷ recordCall 0 1 (num 1) 80 ∷ both 90 (num 2) (num 5) ∷ both 100 (num 1) (num 2) ∷ recordCall 0 1 infinity 110 ∷ both 110 (num 4) (num 2) ∷ []
+    both 40 (num 1) minusZero ∷ consolidateCall ∷ consolidateCall ∷ recordCall 0 0 (num 3) 50 ∷ recordCall 0 1 (num 3) 0 ∷ recordCall 0 1 (minus 3) 50
+    ∷ both 60 (num 7) (num 7) ∷ both 70 (num 2) (minus 0) ∷ queryCall 0 0 0 0 9 ∷ batchCall [] 0
+    ∷ recordCall 0 0 (num 2) 80 ∷ recordCall 0 1 (num 1) 80 ∷ both 90 (num 2) (num 5) ∷ both 100 (num 1) (num 2) ∷ recordCall 0 1 infinity 110 ∷ both 110 (num 4) (num 2)
+    ∷ consolidateCall ∷ both 120 (num 3) (num 1) ∷ both 130 (num 6) (num 2) ∷ both 140 (num 5) (num 9) ∷ []
 
 -- column c at tier k; a refused record and a query stand between the run and the query
 unfoldable pub story : ℕ → ℕ → Situation
 story c k = record {
   plan = plan tiers;
-  buf = replicate 610 9;
+  buf = replicate 780 9;
   flags = replicate 32 true;
   before = calls;
   between = recordCall 0 9 0 0 ∷ autoCall 0 1 0 9 ∷ [];
@@ -58,7 +60,7 @@ unfolding Cases-defs Demand-defs tiers minus minusZero both calls story
 Instance-defs = tt
 
 -- the supposition is met
-pub accepted-plan : createCheck (plan tiers) (replicate 610 9) ≡ 0
+pub accepted-plan : createCheck (plan tiers) (replicate 780 9) ≡ 0
 unfolding Instance-defs
 accepted-plan = refl
 
@@ -66,16 +68,25 @@ pub suited-plan : T (suited (rows (plan tiers)))
 unfolding Instance-defs
 suited-plan = tt
 
--- what the calls did: the samples of both columns, and three runs
+-- each of its rings spans two coarsest intervals, and no more: with a slot less in any of them it is not suited
+pub slot-less :
+    suited (tier 0 10 70 0 ∷ tier 1 20 80 1 ∷ tier 2 40 80 1 ∷ []) ∷ suited (tier 0 10 80 0 ∷ tier 1 20 60 1 ∷ tier 2 40 80 1 ∷ [])
+    ∷ suited (tier 0 10 80 0 ∷ tier 1 20 80 1 ∷ tier 2 40 40 1 ∷ []) ∷ []
+    ≡ false ∷ false ∷ false ∷ []
+unfolding Instance-defs
+slot-less = refl
+
+-- what the calls did: the samples of both columns, and four runs
 unfoldable pub sample : ℕ → ℕ → ℕ → Event
 sample t c v = took (record { column = c; stamp = t; value = v })
 
 unfoldable pub did : List Event
 did =
-    sample 40 1 (num 1) ∷ sample 40 0 minusZero ∷ sample 50 0 (num 3) ∷ sample 50 1 (minus 3) ∷ sample 60 1 (num 7) ∷ sample 60 0 (num 7)
-    ∷ sample 70 1 (num 2) ∷ sample 70 0 (minus 0) ∷ ran ∷ ran
+    sample 40 1 (num 1) ∷ sample 40 0 minusZero ∷ ran ∷ ran ∷ sample 50 0 (num 3) ∷ sample 50 1 (minus 3) ∷ sample 60 1 (num 7) ∷ sample 60 0 (num 7)
+    ∷ sample 70 1 (num 2) ∷ sample 70 0 (minus 0)
     ∷ sample 80 0 (num 2) ∷ sample 80 1 (num 1) ∷ sample 90 1 (num 2) ∷ sample 90 0 (num 5) ∷ sample 100 1 (num 1) ∷ sample 100 0 (num 2)
-    ∷ sample 110 1 (num 4) ∷ sample 110 0 (num 2) ∷ ran ∷ []
+    ∷ sample 110 1 (num 4) ∷ sample 110 0 (num 2) ∷ ran ∷ sample 120 1 (num 3) ∷ sample 120 0 (num 1) ∷ sample 130 1 (num 6) ∷ sample 130 0 (num 2)
+    ∷ sample 140 1 (num 5) ∷ sample 140 0 (num 9) ∷ ran ∷ []
 
 pub history-is : (c k : ℕ) → history (story c k) ≡ did
 unfolding Instance-defs sample did
@@ -90,10 +101,10 @@ pub quiet : events (afterRun (story 1 0)) (story 1 0 .between) ≡ []
 unfolding Instance-defs
 quiet = refl
 
--- the windows that are due at the three tiers
+-- the windows that are due at the three tiers: of these, 140 at tier 1 and 120 at tier 2 are still open. Five slots would hold the first of tier 2 as well
 pub dues :
-    newestWindows 10 10 4 (samplesIn did) ∷ newestWindows 10 20 2 (samplesIn did) ∷ newestWindows 10 40 1 (samplesIn did) ∷ []
-    ≡ (80 ∷ 90 ∷ 100 ∷ 110 ∷ []) ∷ (80 ∷ 100 ∷ []) ∷ (80 ∷ []) ∷ []
+    newestWindows 10 8 (samplesIn did) ∷ newestWindows 20 4 (samplesIn did) ∷ newestWindows 40 2 (samplesIn did) ∷ newestWindows 40 5 (samplesIn did) ∷ []
+    ≡ (70 ∷ 80 ∷ 90 ∷ 100 ∷ 110 ∷ 120 ∷ 130 ∷ 140 ∷ []) ∷ (80 ∷ 100 ∷ 120 ∷ 140 ∷ []) ∷ (80 ∷ 120 ∷ []) ∷ (40 ∷ 80 ∷ 120 ∷ []) ∷ []
 unfolding Instance-defs sample did
 dues = refl
 
@@ -124,17 +135,32 @@ points l c k = handedOut (call l (queryCall 0 c k 0 (2 ^ 64 - 1)) .reply)
 unfoldable pub read : Lent → List (List Point)
 read l = points l 1 0 ∷ points l 1 1 ∷ points l 1 2 ∷ points l 0 1 ∷ []
 
--- 1, 2, 1 and 4; 1.5 and 2.5; 2; 3.5 and 2
+-- a point by its value's pattern
+unfoldable pub point : ℕ → ℕ → Point
+point t v = record { stamp = t; value = v }
+
+-- their values: those of the closed windows, and behind a semicolon that of the window still open; tier 0 has none
+unfoldable pub finestPoints : List Point
+finestPoints = at 70 2 ∷ at 80 1 ∷ at 90 2 ∷ at 100 1 ∷ at 110 4 ∷ at 120 3 ∷ at 130 6 ∷ at 140 5 ∷ []
+
+-- 1.5, 2.5, 4.5; 5
+unfoldable pub middlePoints : List Point
+middlePoints = point 80 0x3ff8_0000_0000_0000 ∷ point 100 0x4004_0000_0000_0000 ∷ point 120 0x4012_0000_0000_0000 ∷ at 140 5 ∷ []
+
+-- 2; 4.75, the mean of 4.5 and 5, though the samples so far, 3, 6 and 5, have the mean 14 / 3
+unfoldable pub coarsestPoints : List Point
+coarsestPoints = at 80 2 ∷ point 120 0x4013_0000_0000_0000 ∷ []
+
+-- 3.5, 2, 1.5; 9
+unfoldable pub otherColumn : List Point
+otherColumn = point 80 0x400c_0000_0000_0000 ∷ at 100 2 ∷ point 120 0x3ff8_0000_0000_0000 ∷ at 140 9 ∷ []
+
 unfoldable pub numbers : List (List Point)
-numbers =
-    (at 80 1 ∷ at 90 2 ∷ at 100 1 ∷ at 110 4 ∷ [])
-    ∷ (record { stamp = 80; value = 0x3ff8_0000_0000_0000 } ∷ record { stamp = 100; value = 0x4004_0000_0000_0000 } ∷ [])
-    ∷ (at 80 2 ∷ [])
-    ∷ (record { stamp = 80; value = 0x400c_0000_0000_0000 } ∷ at 100 2 ∷ []) ∷ []
+numbers = finestPoints ∷ middlePoints ∷ coarsestPoints ∷ otherColumn ∷ []
 
 -- the calls are computed once for all four queries
 pub read-is : T (alike (read (after (afterRun (story 0 0)) (story 0 0 .between))) numbers)
-unfolding Instance-defs same alike points read numbers
+unfolding Instance-defs same alike points read point finestPoints middlePoints coarsestPoints otherColumn numbers
 read-is = tt
 
 pub points-are : T (alike (answers (story 1 0) ∷ answers (story 1 1) ∷ answers (story 1 2) ∷ answers (story 0 1) ∷ []) numbers)
@@ -143,19 +169,42 @@ points-are = read-is
 
 -- they are as promised
 pub promised :
-    each 1 10 0 (samplesIn did) (80 ∷ 90 ∷ 100 ∷ 110 ∷ []) (at 80 1 ∷ at 90 2 ∷ at 100 1 ∷ at 110 4 ∷ [])
-    && each 1 20 1 (samplesIn did) (80 ∷ 100 ∷ []) (record { stamp = 80; value = 0x3ff8_0000_0000_0000 } ∷ record { stamp = 100; value = 0x4004_0000_0000_0000 } ∷ [])
-    && each 1 40 2 (samplesIn did) (80 ∷ []) (at 80 2 ∷ [])
+    each 10 1 10 0 (samplesIn did) (70 ∷ 80 ∷ 90 ∷ 100 ∷ 110 ∷ 120 ∷ 130 ∷ 140 ∷ []) finestPoints
+    && each 10 1 20 1 (samplesIn did) (80 ∷ 100 ∷ 120 ∷ 140 ∷ []) middlePoints
+    && each 10 1 40 2 (samplesIn did) (80 ∷ 120 ∷ []) coarsestPoints
     ≡ true
-unfolding Instance-defs sample did
+unfolding Instance-defs sample did point finestPoints middlePoints coarsestPoints
 promised = refl
 
--- and not: a point dropped, one more, two exchanged, a wrong stamp, 1 / 1,024 off at tier 2; 1 / 2,048 off is within the bound
+-- and not: a point dropped, one more, two exchanged, a wrong stamp, 1 / 1,024 off at tier 2; a wrong value in the window that closed last; the open window's
+-- point missing, stamped otherwise, or there twice; a wrong value before it. 1 / 2,048 off is within the bound, and for the open window's point there is none
 pub not-promised :
-    each 1 10 0 (samplesIn did) (80 ∷ 90 ∷ []) (at 80 1 ∷ []) ∷ each 1 10 0 (samplesIn did) (80 ∷ []) (at 80 1 ∷ at 90 2 ∷ [])
-    ∷ each 1 10 0 (samplesIn did) (80 ∷ 90 ∷ []) (at 90 2 ∷ at 80 1 ∷ []) ∷ each 1 10 0 (samplesIn did) (80 ∷ []) (at 90 1 ∷ [])
-    ∷ each 1 40 2 (samplesIn did) (80 ∷ []) (record { stamp = 80; value = 0x4000_0200_0000_0000 } ∷ [])
-    ∷ each 1 40 2 (samplesIn did) (80 ∷ []) (record { stamp = 80; value = 0x4000_0100_0000_0000 } ∷ []) ∷ []
-    ≡ false ∷ false ∷ false ∷ false ∷ false ∷ true ∷ []
-unfolding Instance-defs sample did
+    each 10 1 10 0 (samplesIn did) (80 ∷ 90 ∷ []) (at 80 1 ∷ []) ∷ each 10 1 10 0 (samplesIn did) (80 ∷ []) (at 80 1 ∷ at 90 2 ∷ [])
+    ∷ each 10 1 10 0 (samplesIn did) (80 ∷ 90 ∷ []) (at 90 2 ∷ at 80 1 ∷ []) ∷ each 10 1 10 0 (samplesIn did) (80 ∷ []) (at 90 1 ∷ [])
+    ∷ each 10 1 40 2 (samplesIn did) (80 ∷ []) (point 80 0x4000_0200_0000_0000 ∷ []) ∷ each 10 1 10 0 (samplesIn did) (140 ∷ []) (at 140 6 ∷ [])
+    ∷ each 10 1 40 2 (samplesIn did) (80 ∷ 120 ∷ []) (at 80 2 ∷ []) ∷ each 10 1 40 2 (samplesIn did) (80 ∷ 120 ∷ []) (at 80 2 ∷ at 130 2 ∷ [])
+    ∷ each 10 1 40 2 (samplesIn did) (80 ∷ 120 ∷ []) (at 80 2 ∷ at 120 2 ∷ at 120 2 ∷ []) ∷ each 10 1 40 2 (samplesIn did) (80 ∷ 120 ∷ []) (at 80 3 ∷ at 120 2 ∷ [])
+    ∷ each 10 1 40 2 (samplesIn did) (80 ∷ []) (point 80 0x4000_0100_0000_0000 ∷ [])
+    ∷ each 10 1 40 2 (samplesIn did) (80 ∷ 120 ∷ []) (at 80 2 ∷ at 120 9 ∷ []) ∷ []
+    ≡ false ∷ false ∷ false ∷ false ∷ false ∷ false ∷ false ∷ false ∷ false ∷ false ∷ true ∷ true ∷ []
+unfolding Instance-defs sample did point
 not-promised = refl
+
+-- the schedule. Good: a run after the first tick of an interval and the next after the last of the following one; the old schedule, a run after each coarsest
+-- interval's last tick; two runs after one tick, and none yet in the interval of the greatest stamp, which the run in question serves.
+-- Not good: an interval without a run, where the last run before it follows the first tick of the interval before it, or the last one: that run counts for
+-- its own interval alone; a first interval without a run; a sample of a tick behind a run that follows the tick; a run before the first sample
+unfoldable pub ticked : ℕ → Event
+ticked t = sample t 0 0
+
+pub schedules :
+    scheduled 40 0 0 (ticked 40 ∷ ran ∷ ticked 50 ∷ ticked 60 ∷ ticked 70 ∷ ticked 80 ∷ ticked 90 ∷ ticked 100 ∷ ticked 110 ∷ ran ∷ ticked 120 ∷ [])
+    ∷ scheduled 40 0 0 (ticked 40 ∷ ticked 50 ∷ ticked 60 ∷ ticked 70 ∷ ran ∷ ticked 80 ∷ ticked 90 ∷ ticked 100 ∷ ticked 110 ∷ ran ∷ [])
+    ∷ scheduled 40 0 0 (ticked 40 ∷ ticked 50 ∷ ran ∷ ran ∷ ticked 60 ∷ ticked 70 ∷ ticked 80 ∷ ticked 90 ∷ [])
+    ∷ scheduled 40 0 0 (ticked 40 ∷ ran ∷ ticked 50 ∷ ticked 60 ∷ ticked 70 ∷ ticked 80 ∷ ticked 90 ∷ ticked 100 ∷ ticked 110 ∷ ticked 120 ∷ ran ∷ [])
+    ∷ scheduled 40 0 0 (ticked 40 ∷ ticked 50 ∷ ticked 60 ∷ ticked 70 ∷ ran ∷ ticked 80 ∷ ticked 90 ∷ ticked 100 ∷ ticked 110 ∷ ticked 120 ∷ ran ∷ [])
+    ∷ scheduled 40 0 0 (ticked 40 ∷ ticked 50 ∷ ticked 60 ∷ ticked 70 ∷ ticked 80 ∷ ran ∷ [])
+    ∷ scheduled 40 0 0 (ticked 40 ∷ ran ∷ ticked 40 ∷ []) ∷ scheduled 40 0 0 (ticked 40 ∷ ticked 50 ∷ ran ∷ ran ∷ ticked 50 ∷ []) ∷ scheduled 40 0 0 (ran ∷ ticked 40 ∷ []) ∷ []
+    ≡ true ∷ true ∷ true ∷ false ∷ false ∷ false ∷ false ∷ false ∷ false ∷ []
+unfolding Instance-defs sample ticked
+schedules = refl

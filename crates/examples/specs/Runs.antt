@@ -96,6 +96,14 @@ pub falling-stamps :
 unfolding Runs-defs
 falling-stamps = tt
 
+-- without a mark the oldest stamp is the start, also within a window: of 1, 5 and 3 at 120, 90 and 150, in this order in the ring, the 5 at 90 is not read, and
+-- the window at 80 holds 2
+pub below-the-oldest :
+    T (alike (left (run (after (fresh (tier 0 10 40 0 ∷ tier 1 80 160 1 ∷ [])) (rec 120 1 ∷ rec 90 5 ∷ rec 150 3 ∷ []))) (400 ∷ 408 ∷ 416 ∷ 424 ∷ []))
+    (record { refusal = 0; count = 1; marks = 150 ∷ 0 ∷ []; flags = false ∷ false ∷ []; words = 0 ∷ 80 ∷ freshValue ∷ num 2 ∷ [] }))
+unfolding Runs-defs
+below-the-oldest = tt
+
 -- samples at 40, then at 39: the oldest is 40, the newest 39, so the range from 40 up to 40 is empty
 pub forty-then-less :
     T (alike (left (run (after (store 1) (rec 40 1 ∷ rec 39 2 ∷ []))) (352 ∷ 360 ∷ []))
@@ -192,21 +200,103 @@ pub first-schema-refused :
 unfolding Runs-defs
 first-schema-refused = tt
 
--- ---- two runs, by the present start of the reading
+-- ---- two runs: with a nonzero mark the reading starts at the start of the destination's window that holds the mark (the request 2026-01). In document 01
+-- alone it started at mark + source interval; where a row had another outcome there, its comment says so
 
--- after a run that left the mark 20, a sample at 25 is before mark + source interval, and is not read: the window at 20 holds the 9 of 30 alone
+-- after a run that left the mark 20, a sample at 25 takes the slot of the one at 20, and is read: the window at 20 holds 8, the mean of 7 and 9. In document
+-- 01 alone the reading started at 30, and the window held 9
 pub between-mark-and-start :
     T (alike (left (run (after (store 1) (rec 20 1 ∷ consolidateCall ∷ rec 25 7 ∷ rec 30 9 ∷ []))) (360 ∷ 376 ∷ []))
-    (record { refusal = 0; count = 1; marks = 30 ∷ 0 ∷ []; flags = false ∷ false ∷ []; words = 20 ∷ num 9 ∷ [] }))
+    (record { refusal = 0; count = 1; marks = 30 ∷ 0 ∷ []; flags = false ∷ false ∷ []; words = 20 ∷ num 8 ∷ [] }))
 unfolding Runs-defs
 between-mark-and-start = tt
 
--- a NaN alone in a new window: nothing is written, and the mark stays 20
+-- a NaN alone in a new window, after a run that left the mark 20. The sample at 20 still stands: its window is written again, over the 5 put there by hand,
+-- and counted, so the mark becomes 40. In document 01 alone nothing was written, and the mark stayed 20
 pub nan-in-a-new-window :
-    T (alike (left (run (after (store 1) (rec 20 1 ∷ consolidateCall ∷ recordCall 0 0 freshValue 40 ∷ []))) (352 ∷ 360 ∷ []))
-    (record { refusal = 0; count = 0; marks = 20 ∷ 0 ∷ []; flags = false ∷ false ∷ []; words = 0 ∷ 20 ∷ [] }))
+    T (alike (left (run (with (after (fresh (tier 0 10 40 0 ∷ tier 1 20 40 1 ∷ [])) (rec 20 1 ∷ consolidateCall ∷ recordCall 0 0 freshValue 40 ∷ [])) 424 (num 5)))
+    (400 ∷ 408 ∷ 416 ∷ 424 ∷ []))
+    (record { refusal = 0; count = 1; marks = 40 ∷ 0 ∷ []; flags = true ∷ false ∷ []; words = 0 ∷ 20 ∷ freshValue ∷ num 1 ∷ [] }))
 unfolding Runs-defs
 nan-in-a-new-window = tt
+
+-- the same where the NaN has taken the slot of the sample at 20: nothing is written, the mark stays 20, and the 5 stays. So it was in document 01 alone
+pub nan-alone-is-left :
+    T (alike (left (run (with (after (store 1) (rec 20 1 ∷ consolidateCall ∷ recordCall 0 0 freshValue 40 ∷ [])) 376 (num 5))) (352 ∷ 360 ∷ 376 ∷ []))
+    (record { refusal = 0; count = 0; marks = 20 ∷ 0 ∷ []; flags = false ∷ false ∷ []; words = 0 ∷ 20 ∷ num 5 ∷ [] }))
+unfolding Runs-defs
+nan-alone-is-left = tt
+
+-- a window whose first samples have left the ring is averaged over those still there: 1 for 3 into 4 for 8, samples 1, 2, 4, 9 at 4 to 7, a run after the
+-- second. The sample at 4 is gone: the window at 4 holds 5, the mean of 2, 4 and 9. In document 01 alone it held 6.5, the mean of 4 and 9
+pub first-samples-gone :
+    T (alike (left (run (after (fresh (tier 0 1 3 0 ∷ tier 1 4 8 1 ∷ [])) (rec 4 1 ∷ rec 5 2 ∷ consolidateCall ∷ rec 6 4 ∷ rec 7 9 ∷ []))) (376 ∷ 384 ∷ 392 ∷ 400 ∷ []))
+    (record { refusal = 0; count = 1; marks = 7 ∷ 0 ∷ []; flags = true ∷ false ∷ []; words = 0 ∷ 4 ∷ freshValue ∷ num 5 ∷ [] }))
+unfolding Runs-defs
+first-samples-gone = tt
+
+-- a window of which no sample is left stays as it is: the 5 put there by hand, while the window at 40 is written with 3
+pub all-samples-gone :
+    T (alike (left (run (with (after (store 1) (rec 20 1 ∷ rec 30 1 ∷ consolidateCall ∷ rec 40 2 ∷ rec 50 4 ∷ [])) 376 (num 5))) (352 ∷ 360 ∷ 368 ∷ 376 ∷ []))
+    (record { refusal = 0; count = 1; marks = 50 ∷ 0 ∷ []; flags = true ∷ true ∷ []; words = 40 ∷ 20 ∷ num 3 ∷ num 5 ∷ [] }))
+unfolding Runs-defs
+all-samples-gone = tt
+
+-- a sample at 25 after a run that left the mark 30 is the newest: what stands behind it, 3 at 30, is not read, the window at 20 holds 7, and the mark goes back
+-- to 25. In document 01 alone the range from 40 up to 26 was empty: the window held 2, and the mark stayed 30
+pub mark-goes-back :
+    T (alike (left (run (after (store 1) (rec 20 1 ∷ rec 30 3 ∷ consolidateCall ∷ rec 25 7 ∷ []))) (360 ∷ 376 ∷ []))
+    (record { refusal = 0; count = 1; marks = 25 ∷ 0 ∷ []; flags = true ∷ false ∷ []; words = 20 ∷ num 7 ∷ [] }))
+unfolding Runs-defs
+mark-goes-back = tt
+
+-- a nonzero mark below the destination's interval, 15 put there by hand: the reading starts at 0. The sample at 1 came after the one at 20, so it is the newest
+-- and not the oldest: from 0 on it alone is read, and its window is refused with 13. From any start above 1 the range is empty, and nothing is refused; so it
+-- was in document 01 alone, where the reading started at 25
+pub mark-below-the-interval :
+    T (alike (left (run (with (after (fresh (tier 0 10 30 0 ∷ tier 1 20 40 1 ∷ [])) (rec 20 2 ∷ rec 1 1 ∷ [])) 80 15)) (376 ∷ 384 ∷ []))
+    (record { refusal = 13; count = 0; marks = 15 ∷ 0 ∷ []; flags = true ∷ false ∷ []; words = 0 ∷ 0 ∷ [] }))
+unfolding Runs-defs
+mark-below-the-interval = tt
+
+-- a run with nothing new writes the window that holds the mark again, over the 5 put there by hand, and counts it: a closed window, then one still open. The
+-- window at 20, before the mark's, is not written again. In document 01 alone nothing was written, and 5 stayed
+pub nothing-new-closed :
+    T (alike (left (run (with (with (after (fresh (tier 0 10 40 0 ∷ tier 1 20 40 1 ∷ [])) (rec 30 7 ∷ rec 40 1 ∷ rec 50 3 ∷ consolidateCall ∷ [])) 416 (num 5)) 424 (num 6)))
+    (400 ∷ 408 ∷ 416 ∷ 424 ∷ []))
+    (record { refusal = 0; count = 1; marks = 50 ∷ 0 ∷ []; flags = true ∷ true ∷ []; words = 40 ∷ 20 ∷ num 2 ∷ num 6 ∷ [] }))
+unfolding Runs-defs
+nothing-new-closed = tt
+
+pub nothing-new-open :
+    T (alike (left (run (with (with (after (fresh (tier 0 10 40 0 ∷ tier 1 20 40 1 ∷ [])) (rec 20 7 ∷ rec 30 7 ∷ rec 40 3 ∷ consolidateCall ∷ [])) 416 (num 5)) 424 (num 6)))
+    (400 ∷ 408 ∷ 416 ∷ 424 ∷ []))
+    (record { refusal = 0; count = 1; marks = 40 ∷ 0 ∷ []; flags = true ∷ true ∷ []; words = 40 ∷ 20 ∷ num 3 ∷ num 6 ∷ [] }))
+unfolding Runs-defs
+nothing-new-open = tt
+
+-- three tiers and a run in the middle of a window of each: after 1, 3 and 8 at 40 to 60 the window of 40 holds 5, the mean of 2 and of the open 8; after 10 at
+-- 70 the window at 60 holds 9, and the window of 40 holds 5.5: its 2 is read again. In document 01 alone they then held 10 and, not written again, 5
+pub open-mean-for-now :
+    T (alike (left (run (after (fresh (tier 0 10 40 0 ∷ tier 1 20 40 1 ∷ tier 2 40 40 1 ∷ [])) (rec 40 1 ∷ rec 50 3 ∷ rec 60 8 ∷ []))) (480 ∷ 488 ∷ 592 ∷ []))
+    (record { refusal = 0; count = 3; marks = 60 ∷ 60 ∷ 0 ∷ []; flags = false ∷ false ∷ false ∷ []; words = num 2 ∷ num 8 ∷ num 5 ∷ [] }))
+unfolding Runs-defs
+open-mean-for-now = tt
+
+pub open-mean-made-good :
+    T (alike (left (run (after (fresh (tier 0 10 40 0 ∷ tier 1 20 40 1 ∷ tier 2 40 40 1 ∷ [])) (rec 40 1 ∷ rec 50 3 ∷ rec 60 8 ∷ consolidateCall ∷ rec 70 10 ∷ []))) (480 ∷ 488 ∷ 592 ∷ []))
+    (record { refusal = 0; count = 2; marks = 70 ∷ 60 ∷ 0 ∷ []; flags = false ∷ false ∷ false ∷ []; words = num 2 ∷ num 9 ∷ 0x4016_0000_0000_0000 ∷ [] }))
+unfolding Runs-defs
+open-mean-made-good = tt
+
+-- each pair goes by its own mark: after a run that left 40 for both, and 8 and 9 at 60 and 80, the second pair reads from 40 on, though the first pair's mark is
+-- 80 by then. The window of 40 at 40 held 1, and holds 4.5. In document 01 alone it held 8: the reading of the second pair started at 60
+pub own-mark :
+    T (alike (left (run (after (fresh (tier 0 10 50 0 ∷ tier 1 20 60 1 ∷ tier 2 40 80 1 ∷ [])) (rec 40 1 ∷ consolidateCall ∷ rec 60 8 ∷ rec 80 9 ∷ [])))
+    (512 ∷ 520 ∷ 528 ∷ 648 ∷ 656 ∷ []))
+    (record { refusal = 0; count = 5; marks = 80 ∷ 80 ∷ 0 ∷ []; flags = true ∷ true ∷ true ∷ []; words = num 8 ∷ num 9 ∷ num 1 ∷ num 9 ∷ 0x4012_0000_0000_0000 ∷ [] }))
+unfolding Runs-defs
+own-mark = tt
 
 -- ---- replies
 

@@ -22,7 +22,7 @@ supposition : (c k : ℕ) → T (supposed (finest (story c k)) (coarsest (story 
 unfolding Instance-defs
 supposition c k = met .0
 
-pub promised : (c k : ℕ) → T (used c (samplesIn did)) → k < 3 → T (each c (tierInterval (story c k)) k (samples (story c k)) (due (story c k)) (answers (story c k)))
+pub promised : (c k : ℕ) → T (used c (samplesIn did)) → k < 3 → T (each (finest (story c k)) c (tierInterval (story c k)) k (samples (story c k)) (due (story c k)) (answers (story c k)))
 unfolding ThirdDemand story samples afterRun created upToRun
 promised c k u h =
     proof (story c k) accepted-plan one-schema suited-plan
@@ -30,5 +30,5 @@ promised c k u h =
     (subst (λ (es : List Event). T (used c (samplesIn es))) (sym (history-is c k)) u) (subst (λ (n : ℕ). k < n) (sym three-rows) h)
 
 -- so column 1 at the coarsest tier
-pub promised-coarsest : T (each 1 (tierInterval (story 1 2)) 2 (samples (story 1 2)) (due (story 1 2)) (answers (story 1 2)))
+pub promised-coarsest : T (each (finest (story 1 2)) 1 (tierInterval (story 1 2)) 2 (samples (story 1 2)) (due (story 1 2)) (answers (story 1 2)))
 promised-coarsest = promised 1 2 (met .1) (lit< tt)

@@ -1,5 +1,5 @@
--- The tiers of a plan as supposed: each interval is a whole number of the finer one's, the coarsest a whole number of each, and every ring spans one coarsest
--- interval. So stamps, ticks and window numbers of all tiers go over into each other. Assumes nothing.
+-- The tiers of a plan as supposed: each interval is a whole number of the finer one's, the coarsest a whole number of each, and every ring but the
+-- coarsest spans two coarsest intervals. So stamps, ticks and window numbers of all tiers go over into each other. Assumes nothing.
 use Prim.Native.Nat.{ℕ, zero, suc, _+_, _-_, _*_, _/_, _≤_, _<_}
 use native.Mathlib.Nat.{zero-mul, mul-assoc, mul-pos, mul-div-cancel, mul-le-mul-right, le-of-mul-le-mul-right}
 use native.Mathlib.Omega.{arith}
@@ -134,10 +134,11 @@ module _ {p buf : List ℕ} (ok : Planned p buf) where
     some = mul-pos (some-per (suc k) h) (ratio-in k h .0);
   })
 
-  pub span : (k : ℕ) → k < rowCount p → per p k ≤ rowSlots (rowAt p k)
+  pub span : (k : ℕ) → suc k < rowCount p → 2 * per p k ≤ rowSlots (rowAt p k)
   span k h =
+      let l : k < rowCount p = omega arith in
       le-of-mul-le-mul-right {k = rowAt p k .interval}
-      (subst (λ (v : ℕ). v ≤ rowSlots (rowAt p k) * rowAt p k .interval) (coarsest-is k h) (ok .spans k h)) (long k h)
+      (subst (λ (v : ℕ). v ≤ rowSlots (rowAt p k) * rowAt p k .interval) (ap (λ (v : ℕ). 2 * v) (coarsest-is k l) ∙ sym (mul-assoc 2 (per p k) (rowAt p k .interval))) (ok .spans k h)) (long k l)
 
   -- the finest interval is the least
   pub finest-least : (k : ℕ) → k < rowCount p → rowAt p 0 .interval ≤ rowAt p k .interval

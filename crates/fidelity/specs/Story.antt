@@ -1,42 +1,44 @@
 -- From creation through the calls up to a run to the query after it, for one situation and its supposition: the stronger demand. The plan and the samples
 -- make a set-up; the store that creation leaves belongs to it, and the calls keep that; the calls between change nothing; the query of a used column at tier k
--- hands out one point for each window that is due, and its value is within k / 4,096 of its samples' exact mean. Assumes nothing.
-use Prim.Native.Nat.{ℕ, _+_, _-_, _*_, _%_, _^_, _≤_, _<_}
-use native.Mathlib.Nat.{mul-assoc, mul-pos, eq-of-mul-eq-mul-right}
+-- hands out one point for each window that is due, and that of a closed one is within k / 4,096 of its samples' exact mean. Assumes nothing.
+use Prim.Native.Nat.{ℕ, suc, _+_, _-_, _*_, _/_, _%_, _^_, _≤_, _<_}
+use native.Mathlib.Nat.{mul-assoc, mul-le-mul-right, div-mul-le-self, eq-of-mul-eq-mul-right, le-of-mul-le-mul-right, le-div-iff-mul-le, mul-add-div-right}
 use native.Mathlib.Omega.{arith}
-use mathlib.Core.Path.{_≡_, refl, sym, ap, _∙_}
-use mathlib.Core.Bool.{true, false}
+use mathlib.Core.Path.{_≡_, refl, sym, ap, _∙_, subst}
+use mathlib.Core.Bool.{true}
 use mathlib.Core.List.{List, [], _∷_, _++_, append-nil}
-use lib.Dec.{T, ltb, eqb}
+use lib.Dec.{T, eqb}
 use lib.ListN.{length}
 use lib.Ieee.{binary64, ofBits}
 use Rattle.model.specs.Image.{rowCount, rowAt, rowSlots, openCheck}
 use Rattle.model.specs.Lent.{Lent, creation}
 use Rattle.model.specs.Consolidate.{run}
 use Rattle.model.specs.Store.{Call, queryCall, consolidateCall, finished, call, after}
-use Rattle.demand.specs.Demand.{Sample, Event, ran, eventsOf, events, samplesIn, firstOf, lastOf, ascending, count, isAt, used, endsInterval, scheduled, newestWindows, inWindow, sumOf, within, each, handedOut, Situation, finest, coarsest, created, upToRun, afterRun, history, samples}
-use Rattle.laws.specs.Tests.{lt-is, eq-is, and-left, and-right}
+use Rattle.demand.specs.Demand.{Sample, Event, ran, eventsOf, events, samplesIn, firstOf, lastOf, ascending, all, isOffset, gapless, ticks, count, isAt, used, scheduled}
+use Rattle.demand.specs.Demand.{newestWindows, starts, inWindow, sumOf, within, each, handedOut, Situation, finest, coarsest, created, upToRun, afterRun, history, samples}
+use Rattle.laws.specs.Tests.{lt-is}
 use Rattle.rings.specs.Hold.{firstHeld}
 use Rattle.rings.specs.Read.{pts}
 use Rattle.pairs.specs.Answers.{valuesOf}
 use Rattle.fresh.specs.Creation.{low-open}
-use Rattle.samples.specs.Lists.{ofColumn, samples-append, first-le-last}
-use Rattle.samples.specs.Schedule.{ends-run}
-use Rattle.samples.specs.Supposed.{steady, Spans, spans}
+use Rattle.samples.specs.Lists.{ofColumn, samples-append, first-le-last, multiple}
+use Rattle.samples.specs.Schedule.{touched, lastStamp, ends-run}
+use Rattle.samples.specs.Supposed.{last-tick, steady, Spans, spans}
 use Rattle.mean.specs.Exact.{aboves, belows}
-use Rattle.runs.specs.Setup.{Setup, end-stamp}
+use Rattle.runs.specs.Setup.{Setup}
+use Rattle.runs.specs.Run.{Settled}
 use Rattle.runs.specs.Between.{Fits, column-in, Next}
 use Rattle.runs.specs.AtRun.{RanOn, ran-here}
 use Rattle.runs.specs.Accepted.{Accepted, accepted-calls, last-low, some-opens, first-pos}
 use Rattle.runs.specs.Calls.{after-append, events-append, calls}
 use Rattle.runs.specs.Query.{idle-calls, answer-is}
-use Rattle.fidelity.specs.Values.{tierLong, tierValue, length-values, value-within}
+use Rattle.fidelity.specs.Values.{tierLong, tierValue, soFar, length-values, value-within, long-pos, so-closed}
 use Rattle.fidelity.specs.Exact.{within-is}
 use Rattle.fidelity.specs.Sums.{OnTicks, window-count, window-sum}
 use Rattle.fidelity.specs.Stronger.{Planned, Supposition}
-use Rattle.fidelity.specs.Plan.{ratio, coarsestOf, per, some-rows, one-schema, long, coarsest-is, some-per, interval-ticks, ratios}
+use Rattle.fidelity.specs.Plan.{ratio, coarsestOf, per, some-rows, one-schema, long, coarsest-is, interval-ticks, ratios}
 use Rattle.fidelity.specs.Begin.{begins}
-use Rattle.fidelity.specs.Setting.{Supplied, tickValue, tick-once, tick-offset, setting, setting-fits}
+use Rattle.fidelity.specs.Setting.{Supplied, tickValue, first-tick, tick-once, tick-offset, setting, setting-fits}
 use Rattle.fidelity.specs.Due.{due-is, each-is}
 
 -- what creation is lent
@@ -93,40 +95,52 @@ module _ (s : Situation) (h : Supposition s) where
   recorded : Accepted (openCheck (creation p l .image)) xs
   recorded = accepted-calls before (creation p l)
 
-  on-schedule : scheduled d D 0 false (events (creation p l) before ++ ran ∷ []) ≡ true
-  unfolding finest coarsest
+  on-schedule : scheduled D 0 0 (events (creation p l) before ++ ran ∷ []) ≡ true
+  unfolding coarsest
   on-schedule = rw (history-is s) at (h .on-schedule)
 
-  -- the last sample ends a coarsest interval
-  ends : (0 < lastOf xs) × ((lastOf xs + d) % D ≡ 0)
-  unfolding endsInterval
-  ends =
-      let e = ends-run d D (events (creation p l) before) [] false (unfold lastOf in on-schedule) in
-      let a = ltb 0 (lastOf xs) in
-      let b = eqb ((lastOf xs + d) % D) 0 in
-      (lt-is 0 (lastOf xs) (and-left a b e), eq-is ((lastOf xs + d) % D) 0 (and-right a b e))
+  -- there is a sample
+  some-sample : 0 < lastOf xs
+  some-sample = ends-run D (events (creation p l) before) [] 0 (unfold lastOf in on-schedule)
 
   not-zero : 0 < firstOf xs
-  not-zero = first-pos (openCheck (creation p l .image)) xs recorded (ends .0)
+  not-zero = first-pos (openCheck (creation p l .image)) xs recorded some-sample
+
+  offsets : all (λ x. isOffset (x .value)) xs ≡ true
+  offsets = rw (samples-are s) at (h .offsets)
+
+  on-ticks : all (λ x. eqb (x .stamp % d) 0) xs ≡ true
+  unfolding finest
+  on-ticks = rw (samples-are s) at (h .on-ticks)
+
+  no-gap : all (λ x. gapless (x .column) d (firstOf xs) (ticks d xs) xs) xs ≡ true
+  unfolding finest
+  no-gap = rw (samples-are s) at (h .no-gap)
+
+  -- the first sample begins a coarsest interval
+  first-at : firstOf xs ≡ firstOf xs / D * per p 0 * d
+  first-at =
+      multiple (firstOf xs) D (unfold coarsest in (rw (samples-are s) at (h .first-whole)))
+      ∙ ap (λ (v : ℕ). firstOf xs / D * v) (coarsest-is ok 0 here) ∙ sym (mul-assoc (firstOf xs / D) (per p 0) d)
 
   span : Spans d D (per p 0) xs
   span =
-      spans d D (per p 0) xs (long ok 0 here) (some-per ok 0 here) (coarsest-is ok 0 here) not-zero
-      (unfold coarsest in (rw (samples-are s) at (h .first-whole))) (first-le-last 0 xs ordered) (ends .1)
+      spans d D (per p 0) xs (long ok 0 here) (coarsest-is ok 0 here) not-zero
+      (unfold coarsest in (rw (samples-are s) at (h .first-whole))) (first-le-last 0 xs ordered)
+      (last-tick d (firstOf xs / D * per p 0) xs (long ok 0 here) first-at not-zero ordered offsets on-ticks no-gap)
 
   abbrev A : ℕ
   A = span .A
 
-  abbrev Z : ℕ
-  Z = span .Z
+  abbrev E : ℕ
+  E = ticks d xs
 
   supplied : Supplied p xs
   supplied =
       let f : firstOf xs ≡ A * per p 0 * d = span .first-is ∙ ap (λ (v : ℕ). A * v) (coarsest-is ok 0 here) ∙ sym (mul-assoc A (per p 0) d) in
       record {
         span-is = span;
-        steady-is = rw (span .ticks-are) at (steady d (A * per p 0) xs (long ok 0 here) f not-zero ordered
-            (rw (samples-are s) at (h .offsets)) (unfold finest in (rw (samples-are s) at (h .on-ticks))) (unfold finest in (rw (samples-are s) at (h .no-gap))));
+        steady-is = steady d (A * per p 0) xs (long ok 0 here) f not-zero ordered offsets on-ticks no-gap;
         lowest = last-low (openCheck (creation p l .image)) xs recorded;
       }
 
@@ -140,11 +154,10 @@ module _ (s : Situation) (h : Supposition s) where
   fits = setting-fits ok supplied
 
   start : Next S (creation p l) [] (events (creation p l) before ++ ran ∷ [])
-  unfolding S setting lastOf
+  unfolding S setting lastOf lastStamp
   start = record {
     e = 0;
-    N = 0;
-    b = false;
+    f = 0;
     store = begins S l (ok .accepted) (one-schema ok) (low-open p l (ok .accepted) (some-opens (openCheck (creation p l .image)) xs recorded not-zero));
     on-schedule = on-schedule;
   }
@@ -160,14 +173,13 @@ module _ (s : Situation) (h : Supposition s) where
   pub not-refused : run (after (creation p l) before) .refusal ≡ 0
   not-refused = done .fine
 
-  -- all coarsest intervals of the samples have been consolidated
-  last-run : done .N ≡ Z
+  -- all ticks of the samples have been consolidated
+  last-run : done .e ≡ E
   unfolding S setting supplied
   last-run =
-      let e = done .store .reached .last-is (rw (done .whole) (mul-pos (done .pos) (some-per ok 0 here))) in
-      let f : (A + done .N) * D ≡ (A + Z) * D =
-      sym (end-stamp S 0 (done .N) here) ∙ ap (λ (x : ℕ). (A * per p 0 + x) * d) (sym (done .whole)) ∙ sym e ∙ span .last-is in
-      omega (arith, eq-of-mul-eq-mul-right D (long ok (rowCount p - 1) (omega (arith, here))) (A + done .N) (A + Z) f)
+      let e = done .store .reached .last-is (done .pos) in
+      let f : (A * per p 0 + done .e) * d ≡ (A * per p 0 + E) * d = sym e ∙ span .last-is in
+      omega (arith, eq-of-mul-eq-mul-right d (long ok 0 here) (A * per p 0 + done .e) (A * per p 0 + E) f)
 
   after-run : after (creation p l) (before ++ consolidateCall ∷ []) ≡ left
   after-run = after-append before (creation p l) (consolidateCall ∷ []) ∙ unfold after call finished in refl
@@ -201,44 +213,69 @@ module _ (s : Situation) (h : Supposition s) where
   abbrev m : ℕ
   m = per p k
 
+  abbrev L : ℕ
+  L = tierLong (ratio p) k
+
+  zL : 0 < L
+  zL = long-pos (ratio p) k (ratios ok k hk)
+
   -- the first number that the tier's ring holds
   abbrev first : ℕ
-  first = firstHeld (rowSlots (rowAt p k)) (A * m) (Z * m)
+  first = firstHeld (rowSlots (rowAt p k)) (A * m) (touched L E)
 
   abbrev X : ℕ → ℕ
   X = tickValue d xs c
 
-  points-are : handedOut (call left (queryCall 0 c k 0 (2 ^ 64 - 1)) .reply) ≡ pts (tierValue (ratio p) X k) i first (A * m + Z * m - first)
-  unfolding S setting supplied
-  points-are = rw last-run at (answer-is (done .settled) (omega (arith, last-run)) c k here-too hu hk)
+  -- the values at the end
+  abbrev W : ℕ → ℕ
+  W = soFar (ratio p) X (A * per p 0 + E) k
 
-  -- number q's value against the samples of its window
-  near : (q : ℕ) → A * m ≤ q → q < (A + Z) * m
-      → within k (ofBits binary64 (tierValue (ratio p) X k q)) (sumOf (inWindow c i (q * i)) xs) (count (inWindow c i (q * i)) xs) ≡ true
+  points-are : handedOut (call left (queryCall 0 c k 0 (2 ^ 64 - 1)) .reply) ≡ pts W i first (A * m + touched L E - first)
+  unfolding S setting supplied ticks
+  points-are = answer-is (subst (Settled S left) last-run (done .settled)) (omega arith) c k here-too hu hk
+
+  -- number q's value against the samples of its window, where that is closed
+  near : (q : ℕ) → A * m ≤ q → q < A * m + E / L
+      → within k (ofBits binary64 (W q)) (sumOf (inWindow c i (q * i)) xs) (count (inWindow c i (q * i)) xs) ≡ true
   unfolding supplied
   near q lo hi =
-      let L = tierLong (ratio p) k in
       let zs = valuesOf X (q * L) L in
-      let once : (j : ℕ) → q * L ≤ j → j < q * L + L → count (isAt c (j * d)) xs ≡ 1 = λ j x y. tick-once ok supplied c k q hk hu lo hi j x (omega arith) in
+      let a = first-tick ok supplied k hk in
+      let low : A * per p 0 ≤ q * L = omega (arith, a, mul-le-mul-right L lo) in
+      let top : suc q * L ≤ A * per p 0 + E = omega (arith, a, mul-le-mul-right L hi, div-mul-le-self E L) in
+      let once : (j : ℕ) → q * L ≤ j → j < q * L + L → count (isAt c (j * d)) xs ≡ 1 = λ j x y. tick-once ok supplied c j hu (omega arith) (omega arith) in
       let on : OnTicks d xs = λ x us bs e. supplied .steady-is .ends x us bs e .1 in
       let e : i ≡ L * d = interval-ticks ok k hk in
       let f : q * i ≡ q * L * d = ap (λ (v : ℕ). q * v) e ∙ sym (mul-assoc q L d) in
-      rw (f, e, window-count c d xs (long ok 0 here) on (q * L) L once ∙ sym (length-values X (q * L) L))
+      rw (so-closed (ratio p) X (A * per p 0 + E) k q (ratios ok k hk) top, f, e, window-count c d xs (long ok 0 here) on (q * L) L once ∙ sym (length-values X (q * L) L))
       (within-is k (ofBits binary64 (tierValue (ratio p) X k q)) (sumOf (inWindow c (L * d) (q * L * d)) xs) (aboves zs) (belows zs) (length zs)
-      (window-sum c d xs (long ok 0 here) on (q * L) L once) (value-within (ratio p) X k q (ratios ok k hk) (tick-offset ok supplied c k q hk hu lo hi)))
+      (window-sum c d xs (long ok 0 here) on (q * L) L once) (value-within (ratio p) X k q (ratios ok k hk) (λ j x y. tick-offset ok supplied c j hu (omega arith) (omega arith))))
 
-  pub as-promised : T (each c (rowAt p k .interval) k xs
-      (newestWindows (rowAt p 0 .interval) (rowAt p k .interval) (rowSlots (rowAt p k)) xs)
+  apart : (A * per p 0 + E) * d ≡ A * m * i + E * d
+  apart =
+      let e : A * per p 0 * d ≡ A * m * i = mul-assoc A (per p 0) d ∙ ap (λ (v : ℕ). A * v) (sym (coarsest-is ok 0 here) ∙ coarsest-is ok k hk) ∙ sym (mul-assoc A m i) in
+      omega arith
+
+  windows : newestWindows i (rowSlots (rowAt p k)) xs ≡ starts i (first * i) (A * m + touched L E - first)
+  unfolding ticks
+  windows =
+      due-is d i (rowSlots (rowAt p k)) (A * m) E L xs (long ok 0 here) zL (omega arith) (interval-ticks ok k hk)
+      (span .first-is ∙ ap (λ (v : ℕ). A * v) (coarsest-is ok k hk) ∙ sym (mul-assoc A m i)) (span .last-is ∙ apart)
+
+  -- a window that ends by the last tick's end is one of the closed numbers
+  closed-no : (q : ℕ) → q * i + i ≤ lastOf xs + d → q < A * m + E / L
+  closed-no q h =
+      let e : i ≡ L * d = interval-ticks ok k hk in
+      let t : suc q * L * d ≤ (A * m * L + E) * d = omega (arith, span .last-is ∙ apart, ap (λ (v : ℕ). suc q * v) e, ap (λ (v : ℕ). A * m * v) e) in
+      let u : suc q * L ≤ A * m * L + E = le-of-mul-le-mul-right {k = d} t (long ok 0 here) in
+      let w : suc q ≤ (A * m * L + E) / L = le-div-iff-mul-le zL .1 u in
+      omega (arith, mul-add-div-right zL (A * m) E)
+
+  pub as-promised : T (each (rowAt p 0 .interval) c (rowAt p k .interval) k xs
+      (newestWindows (rowAt p k .interval) (rowSlots (rowAt p k)) xs)
       (handedOut (call left (queryCall 0 c k 0 (2 ^ 64 - 1)) .reply)))
   as-promised =
-      rw (
-        due-is d i (rowSlots (rowAt p k)) A Z D m xs (long ok k hk) (span .first-is) (span .last-is) (coarsest-is ok k hk),
-        points-are,
-        each-is c i k xs (tierValue (ratio p) X k) first (A * m + Z * m - first) (λ q x y. near q (low q x) (high q y)),
-      ) tt
+      rw (windows, points-are, each-is d c i k xs W first (A * m + touched L E - first) (λ q x y z. near q (low q x) (closed-no q z))) tt
     where
       low : (q : ℕ) → first ≤ q → A * m ≤ q
       low q h = unfold firstHeld in (omega arith)
-
-      high : (q : ℕ) → q < first + (A * m + Z * m - first) → q < (A + Z) * m
-      high q h = unfold firstHeld in (omega arith)

@@ -53,7 +53,7 @@ averaging-at s i (suc k) h j p l =
     go (yes e) here later = subst (λ (j : ℕ). Rung (rowAt s j) (rowAt s (suc j))) e here
     go (no e) here later = later (omega arith) (omega arith)
 
-spanning-every : (D : ℕ) (rs : List Row) → spanning D rs ≡ every (λ r. leb D (rowSlots r * r .interval)) rs
+spanning-every : (D : ℕ) (rs : List Row) → spanning D rs ≡ every (λ r. leb (2 * D) (rowSlots r * r .interval)) rs
 unfolding spanning every
 spanning-every D [] = refl
 spanning-every D (r ∷ rs) = rw (spanning-every D rs)
@@ -64,7 +64,7 @@ last-is s i zero = rw (add-zero i)
 last-is s i (suc k) = let e : i + suc k ≡ suc i + k = omega arith in rw e (last-is s (suc i) k)
 
 suited-from : (s : List ℕ) (n : ℕ) → suited (rowsFrom s 0 n) ≡ true
-    → ((i : ℕ) → suc i < n → Rung (rowAt s i) (rowAt s (suc i))) × ((i : ℕ) → i < n → rowAt s (n - 1) .interval ≤ rowSlots (rowAt s i) * rowAt s i .interval)
+    → ((i : ℕ) → suc i < n → Rung (rowAt s i) (rowAt s (suc i))) × ((i : ℕ) → i < n → 2 * rowAt s (n - 1) .interval ≤ rowSlots (rowAt s i) * rowAt s i .interval)
 unfolding suited rowsFrom
 suited-from s zero h = absurd (false≢true h)
 suited-from s (suc k) h =
@@ -76,7 +76,7 @@ suited-from s (suc k) h =
     let e : 0 + k ≡ suc k - 1 = omega arith in
     let d : D ≡ rowAt s (suc k - 1) .interval = last-is s 0 k ∙ ap (λ (x : ℕ). rowAt s x .interval) e in (
       λ i p. averaging-at s 0 k (u .1) i (omega arith) (omega arith),
-      λ i p. rw d at (le-is D (rowSlots (rowAt s i) * rowAt s i .interval) (every-at (λ r. leb D (rowSlots r * r .interval)) s 0 (suc k) far i (omega arith) (omega arith))),
+      λ i p. rw d at (le-is (2 * D) (rowSlots (rowAt s i) * rowAt s i .interval) (every-at (λ r. leb (2 * D) (rowSlots r * r .interval)) s 0 (suc k) far i (omega arith) (omega arith))),
     )
 
 planned : (p buf : List ℕ) → createCheck p buf ≡ 0 → suited (rows p) ≡ true → Planned p buf
@@ -88,7 +88,7 @@ planned p buf accepted h =
       whole = λ k l. x .0 k l .whole;
       most = λ k l. x .0 k l .most;
       average = λ k l. x .0 k l .average;
-      spans = x .1;
+      spans = λ k l. x .1 k (omega arith);
     }
 
 -- ---- the samples
@@ -106,7 +106,7 @@ clauses s accepted plan h quiet column tier =
     let g : Sample → Bool = λ x. eqb (x .stamp % d) 0 in
     let e : Sample → Bool = λ x. gapless (x .column) d (firstOf xs) (ticks d xs) xs in
     let first = eqb (firstOf xs % coarsest s) 0 in
-    let u = split3 (ltb 0 (firstOf xs) && first && ascending 0 xs) (all (λ x. f x && g x && e x) xs) (scheduled d (coarsest s) 0 false es) (is-true (supposed d (coarsest s) es) h) in
+    let u = split3 (ltb 0 (firstOf xs) && first && ascending 0 xs) (all (λ x. f x && g x && e x) xs) (scheduled (coarsest s) 0 0 es) (is-true (supposed d (coarsest s) es) h) in
     let v = split3 (ltb 0 (firstOf xs)) first (ascending 0 xs) (u .0) in
     let w = split3 (all f xs) (all g xs) (all e xs) (sym (all-three f g e xs) ∙ u .1) in
     record {

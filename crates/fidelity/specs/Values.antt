@@ -1,7 +1,7 @@
 -- The values of one column, tier by tier: whole offsets in tier 0, and in every other tier the pattern of the average of the tier below. Each is finite, a
 -- pair writes it as its window's answer, and it lies within k / 4,096 of the exact mean of all the offsets below it. Assumes nothing.
-use Prim.Native.Nat.{ℕ, zero, suc, _+_, _*_, _/_, _%_, _^_, _≤_, _<_}
-use native.Mathlib.Nat.{zero-add, add-zero, zero-mul, mul-one, mul-comm, mul-le-mul-right, mod-lt}
+use Prim.Native.Nat.{ℕ, zero, suc, _+_, _-_, _*_, _/_, _%_, _^_, _≤_, _<_, min}
+use native.Mathlib.Nat.{zero-add, add-zero, zero-mul, mul-one, mul-comm, mul-le-mul-right, mod-lt, mul-pos, le-trans, le-div-iff-mul-le, div-mul-le-self, mul-add-div-right}
 use native.Mathlib.Omega.{arith}
 use mathlib.Core.Path.{_≡_, refl, sym, ap, _∙_, subst}
 use mathlib.Core.Bool.{Bool, true, false, cond, false≢true}
@@ -20,8 +20,9 @@ use Rattle.laws.specs.Tests.{and-left, and-right, eq-is, le-is}
 use Rattle.rings.specs.Numbers.{upto, length-upto}
 use Rattle.pairs.specs.Answers.{patternsOf, valuesOf, answerFor, finite-answer}
 use Rattle.pairs.specs.Fill.{Given, given-number}
-use Rattle.mean.specs.Exact.{All2, Within, Offset, Flat, wholeMean}
-use Rattle.mean.specs.Average.{average-fits}
+use Rattle.samples.specs.Schedule.{touched}
+use Rattle.mean.specs.Exact.{All, All2, Bounded, Within, Offset, Flat, wholeMean}
+use Rattle.mean.specs.Average.{average-fits, average-bounded}
 use Rattle.mean.specs.Tiers.{flat-within}
 
 -- ---- patterns
@@ -166,3 +167,111 @@ module _ (r X : ℕ → ℕ) where
       (λ p x y. finite-bits (tierValue r X k p) (value-finite k p (λ j l. hr j (omega arith)) (offsets-below k q h p x y))))
       (unfold tierValue in refl) (finite-bits (tierValue r X (suc k) q) (value-finite (suc k) q hr h) .1)
       (unfold tierValue in (toBits-lt binary64 (apply Average vs) (average-fits vs)))
+
+-- ---- the tiers of one column where the ticks below H are in: a window still open has what the tier below has of it
+
+unfoldable pub soFar : (ℕ → ℕ) → (ℕ → ℕ) → ℕ → ℕ → ℕ → ℕ
+soFar r X H zero q = X q
+soFar r X H (suc k) q = toBits binary64 (apply Average (valuesOf (soFar r X H k) (q * r k) (min (touched (tierLong r k) H) (suc q * r k) - q * r k)))
+
+pub long-pos : (r : ℕ → ℕ) (k : ℕ) → Ratios r k → 0 < tierLong r k
+unfolding tierLong
+long-pos r zero hr = omega arith
+long-pos r (suc k) hr = mul-pos (long-pos r k (λ j l. hr j (omega arith))) (hr k (omega arith) .0)
+
+-- windows of L ticks that end at tick H, or begin before it
+touched-ge : (L y H : ℕ) → 0 < L → y * L ≤ H → y ≤ touched L H
+unfolding touched
+touched-ge L zero H z h = omega arith
+touched-ge L (suc y) zero z h = absurd (omega arith)
+touched-ge L (suc y) (suc x) z h = let k : y ≤ x / L = le-div-iff-mul-le z .1 (omega arith) in omega arith
+
+touched-gt : (L y H : ℕ) → 0 < L → y * L < H → y < touched L H
+unfolding touched
+touched-gt L y zero z h = absurd (omega arith)
+touched-gt L y (suc x) z h = let k : y ≤ x / L = le-div-iff-mul-le z .1 (omega arith) in omega arith
+
+pub touched-lt : (L y H : ℕ) → y < touched L H → y * L < H
+unfolding touched
+touched-lt L y zero h = absurd (omega arith)
+touched-lt L y (suc x) h = let k : y ≤ x / L = omega arith in omega (arith, mul-le-mul-right L k, div-mul-le-self x L)
+
+-- counted from the start of a window on
+pub touched-from : (a L e : ℕ) → 0 < L → 0 < e → touched L (a * L + e) ≡ a + touched L e
+unfolding touched
+touched-from a L zero z h = absurd (omega arith)
+touched-from a L (suc x) z h = let s : a * L + suc x ≡ suc (a * L + x) = omega arith in rw (s, mul-add-div-right z a x) (omega arith)
+
+same-map : (f g : ℕ → Float) (q n : ℕ) → ((p : ℕ) → q ≤ p → p < q + n → f p ≡ g p) → map f (upto q n) ≡ map g (upto q n)
+unfolding upto
+same-map f g q zero h = refl
+same-map f g q (suc n) h = rw (h q (omega arith) (omega arith), same-map f g (suc q) n (λ p x y. h p (omega arith) (omega arith)))
+
+all-one : (R : Float → Type 0) (f : ℕ → Float) (q n : ℕ) → ((p : ℕ) → q ≤ p → p < q + n → R (f p)) → All R (map f (upto q n))
+unfolding upto
+all-one R f q zero h = tt
+all-one R f q (suc n) h = (h q (omega arith) (omega arith), all-one R f (suc q) n (λ p x y. h p (omega arith) (omega arith)))
+
+module _ (r X : ℕ → ℕ) (H : ℕ) where
+  -- how many values of tier k window q of tier k + 1 has
+  abbrev many : ℕ → ℕ → ℕ
+  many k q = min (touched (tierLong r k) H) (suc q * r k) - q * r k
+
+  -- a closed window
+  pub so-closed : (k q : ℕ) → Ratios r k → suc q * tierLong r k ≤ H → soFar r X H k q ≡ tierValue r X k q
+  unfolding soFar tierValue tierLong
+  so-closed zero q hr h = refl
+  so-closed (suc k) q hr h =
+      let L = tierLong r k in
+      let zL = long-pos r k (λ j l. hr j (omega arith)) in
+      let t : suc q * r k ≤ touched L H = touched-ge L (suc q * r k) H zL (omega arith) in
+      let c : min (touched L H) (suc q * r k) - q * r k ≡ r k = omega arith in
+      rw c (ap (λ (vs : List Float). toBits binary64 (apply Average vs)) (same-map (λ p. ofBits binary64 (soFar r X H k p)) (λ p. ofBits binary64 (tierValue r X k p)) (q * r k) (r k)
+      (λ p x y. ap (ofBits binary64) (so-closed k p (λ j l. hr j (omega arith)) (below p y h)))))
+    where
+      below : (p : ℕ) → p < q * r k + r k → suc q * (tierLong r k * r k) ≤ H → suc p * tierLong r k ≤ H
+      below p y h = let a : suc p * tierLong r k ≤ (q * r k + r k) * tierLong r k = mul-le-mul-right (tierLong r k) y in omega arith
+
+  -- the patterns of window q of tier k that are in are whole offsets
+  abbrev pub OffsetsIn : ℕ → ℕ → Type 0
+  OffsetsIn k q = (p : ℕ) → q * tierLong r k ≤ p → p < suc q * tierLong r k → p < H → isOffset (X p) ≡ true
+
+  in-below : (k q : ℕ) → OffsetsIn (suc k) q → (p : ℕ) → q * r k ≤ p → p < q * r k + r k → OffsetsIn k p
+  unfolding tierLong
+  in-below k q h p x y i z w v = let c = inside q (r k) (tierLong r k) p i x y z w in h i (c .0) (c .1) v
+
+  some-values : (k q : ℕ) → Ratios r (suc k) → q * tierLong r (suc k) < H → (0 < many k q) × (many k q ≤ r k)
+  unfolding tierLong
+  some-values k q hr h =
+      let L = tierLong r k in
+      let t : q * r k < touched L H = touched-gt L (q * r k) H (long-pos r k (λ j l. hr j (omega arith))) (omega arith) in
+      (omega (arith, hr k (omega arith) .0), omega arith)
+
+  so-bounded : (k q : ℕ) → Ratios r k → OffsetsIn k q → q * tierLong r k < H → Bounded (ofBits binary64 (soFar r X H k q))
+  unfolding soFar
+  so-bounded zero q hr h l = flat-within 0 (ofBits binary64 (X q)) (ofBits binary64 (X q) ∷ []) (offset-of (X q) (unfold tierLong in (h q (omega arith) (omega arith) (first l))), refl) .0
+    where
+      first : q * tierLong r 0 < H → q < H
+      first l = unfold tierLong in (omega arith)
+  so-bounded (suc k) q hr h l =
+      let vs = valuesOf (soFar r X H k) (q * r k) (many k q) in
+      let n = some-values k q hr l in
+      subst Bounded (sym (ofBits-toBits binary64 (apply Average vs) (average-fits vs)))
+      (average-bounded vs (rw (length-values (soFar r X H k) (q * r k) (many k q)) (n .0, le-trans (n .1) (hr k (omega arith) .1)))
+      (all-one Bounded (λ p. ofBits binary64 (soFar r X H k p)) (q * r k) (many k q)
+      (λ p x y. so-bounded k p (λ j l. hr j (omega arith)) (in-below k q h p x (omega (arith, n .1))) (touched-lt (tierLong r k) p H (omega arith)))))
+
+  pub so-finite : (k q : ℕ) → Ratios r k → OffsetsIn k q → q * tierLong r k < H → T (finite (ofBits binary64 (soFar r X H k q)))
+  so-finite k q hr h l = so-bounded k q hr h l .0
+
+  -- a window's answer, as the pair writes it
+  pub so-given : (k q : ℕ) → Ratios r (suc k) → OffsetsIn (suc k) q → q * tierLong r (suc k) < H
+      → Given (answerFor Average (patternsOf (soFar r X H k) (q * r k) (many k q))) (soFar r X H (suc k) q)
+  so-given k q hr h l =
+      let vs = valuesOf (soFar r X H k) (q * r k) (many k q) in
+      let n = some-values k q hr l in
+      given-number (apply Average vs) (soFar r X H (suc k) q)
+      (finite-answer Average (soFar r X H k) (q * r k) (many k q) (n .0)
+      (λ p x y. finite-bits (soFar r X H k p) (so-finite k p (λ j l. hr j (omega arith)) (in-below k q h p x (omega (arith, n .1))) (touched-lt (tierLong r k) p H (omega arith)))))
+      (unfold soFar in refl) (finite-bits (soFar r X H (suc k) q) (so-finite (suc k) q hr h l) .1)
+      (unfold soFar in (toBits-lt binary64 (apply Average vs) (average-fits vs)))

@@ -191,12 +191,14 @@ cases =
     -- I
     ∷ (story (tier 0 10 40 0 ∷ tier 1 20 80 1 ∷ tier 2 40 80 1 ∷ []) (queryCall 0 0 3 5 5 ∷ [])
     gives last (false ∷ false ∷ false ∷ []) (0 ∷ 0 ∷ 0 ∷ []) (refusal 14))
-    -- J
+    -- J, with the request 2026-01: the window that holds the mark is read again from its start. In document 01 the run after 5 at 60 wrote the window at 60
+    -- alone (writes 1), and that window then held 8, the mean of 7 and 9
     ∷ (story two (rec 30 1 ∷ rec 40 2 ∷ rec 50 6 ∷ consolidateCall ∷ []) gives last (false ∷ false ∷ []) (50 ∷ 0 ∷ []) (writes 1))
     ∷ (story two (rec 30 1 ∷ rec 40 2 ∷ rec 50 6 ∷ consolidateCall ∷ everything 1 ∷ [])
     gives last (false ∷ false ∷ []) (50 ∷ 0 ∷ []) (points 1 (At 30) (At 30) 0 end64 true (at 30 3 ∷ [])))
+    ∷ (story two (rec 30 1 ∷ rec 40 2 ∷ rec 50 6 ∷ consolidateCall ∷ rec 60 5 ∷ consolidateCall ∷ []) gives last (false ∷ false ∷ []) (60 ∷ 0 ∷ []) (writes 2))
     ∷ (story two (rec 30 1 ∷ rec 40 2 ∷ rec 50 6 ∷ consolidateCall ∷ rec 60 5 ∷ consolidateCall ∷ rec 70 7 ∷ rec 80 9 ∷ consolidateCall ∷ everything 1 ∷ [])
-    gives last (false ∷ false ∷ []) (80 ∷ 0 ∷ []) (points 1 (At 30) (At 60) 0 end64 true (at 30 3 ∷ at 60 8 ∷ [])))
+    gives last (false ∷ false ∷ []) (80 ∷ 0 ∷ []) (points 1 (At 30) (At 60) 0 end64 true (at 30 3 ∷ at 60 7 ∷ [])))
     -- beside J: two windows in one run are two writes
     ∷ (story two (rec 30 1 ∷ rec 40 2 ∷ rec 50 6 ∷ rec 60 5 ∷ consolidateCall ∷ []) gives last (false ∷ false ∷ []) (60 ∷ 0 ∷ []) (writes 2))
     -- K
@@ -217,4 +219,4 @@ Holds (c ∷ cs) = (result (c .ask) ≡ c .reply) × Holds cs
 
 pub every-case : Holds cases
 unfolding Cases-defs cases
-every-case = (refl, (refl, (refl, (refl, (refl, (refl, (refl, (refl, (refl, (refl, (refl, (refl, (refl, (refl, (refl, (refl, (refl, (refl, (refl, (refl, (refl, tt)))))))))))))))))))))
+every-case = (refl, (refl, (refl, (refl, (refl, (refl, (refl, (refl, (refl, (refl, (refl, (refl, (refl, (refl, (refl, (refl, (refl, (refl, (refl, (refl, (refl, (refl, tt))))))))))))))))))))))

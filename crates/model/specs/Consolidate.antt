@@ -1,4 +1,5 @@
--- Consolidation (document 01, "Consolidate"): the windows of a pair, the writes to its destination, its mark; the run over all pairs. Assumes nothing.
+-- Consolidation (document 01, "Consolidate"; where a reading starts: request 2026-01): the windows of a pair, the writes to its destination, its mark; the run
+-- over all pairs. Assumes nothing.
 use Prim.Native.Nat.{ℕ, zero, suc, _+_, _-_, _^_}
 use mathlib.Core.Bool.{Bool, true, false, not, _&&_, cond}
 use mathlib.Core.List.{List, [], _∷_}
@@ -115,10 +116,11 @@ unfoldable pub orZero : End → ℕ
 orZero Missing = 0
 orZero (At t) = t
 
--- where the reading starts: at the oldest stamp if the mark is 0, else at mark + source interval
+-- where the reading starts: at the oldest stamp if the mark is 0, else at the start of the destination's window that holds the mark; `long` is its interval
+-- (request 2026-01; in document 01 alone at mark + source interval)
 unfoldable pub startOf : ℕ → ℕ → Ring → ℕ
-startOf zero d r = orZero (oldest r)
-startOf (suc k) d r = suc k + d
+startOf zero long r = orZero (oldest r)
+startOf (suc k) long r = windowOf long (suc k)
 
 -- newest + 1, or 0 without a newest
 unfoldable pub endAfter : End → ℕ
@@ -130,7 +132,7 @@ jobOf l i f = record {
   source = ring l i;
   function = f;
   long = row l (suc i) .interval;
-  start = startOf (row l i .mark) (row l i .interval) (ring l i);
+  start = startOf (row l i .mark) (row l (suc i) .interval) (ring l i);
   end = endAfter (newest (ring l i));
 }
 

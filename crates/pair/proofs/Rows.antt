@@ -17,7 +17,7 @@ use Rattle.model.specs.Lent.{row, ring}
 use Rattle.model.specs.Consolidate.{stampsBelow}
 use Rattle.model.specs.Consolidate as C
 use Rattle.frame.specs.Checks.{NextTier, NextSchema, follows-parts, layout-parts}
-use Rattle.frame.specs.Good.{Good, good-open, inside, slabs-apart, tier-of}
+use Rattle.frame.specs.Good.{Good, good-open, inside, slabs-apart}
 use Rattle.ring.specs.Parts.{sized}
 use Rattle.lent.specs.declared.Slab.{Slab}
 use Rattle.lent.specs.Parts.{SlabAt}
@@ -42,12 +42,6 @@ module _ (s : List ℕ) (i : ℕ) (h : Adjacent s i) where
 
   pub row-low : suc i < 32
   row-low = omega (arith, h .next-in, good .shape-is .few-rows)
-
-  pub mark-low : rowAt s i .mark < 2 ^ 63
-  mark-low = good .shape-is .mark-low i (omega (arith, h .next-in))
-
-  pub interval-low : rowAt s i .interval < 2 ^ 63
-  interval-low = tier-of s good i (omega (arith, h .next-in)) .interval-low
 
   same-series : rowAt s i .series ≡ rowAt s (suc i) .series
   same-series = go (follows-parts (rowAt s i) (rowAt s (suc i)) (good .shape-is .follow i (h .next-in)))
@@ -103,7 +97,7 @@ module _ (s : List ℕ) (i : ℕ) (h : Adjacent s i) (flags : Flags) (f : Consol
       end-low = rw k at l;
       same-series = b .series-is ∙ sym (same-series s i h) ∙ sym (a .series-is);
     };
-    job-is = rw (slab-part a, e, b .interval-is, a .interval-is);
+    job-is = rw (slab-part a, e, b .interval-is);
     dest-is = slab-part b;
     start-is = b .from-is;
     series-is = a .series-is;

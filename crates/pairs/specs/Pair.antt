@@ -1,9 +1,9 @@
 -- One tier pair of a run. A source that took numbers without gaps goes to a destination that goes on with its own numbers: the windows that the range's
 -- numbers fall in are written in order, for every used column, and counted; the mark moves where there was a window. `consolidated` is the general law: the
--- range may start and end inside a window, and the first window may be the destination's newest again. `paired` is the case of whole new windows, which
--- the third demand's schedule leads to. Then the pair's call: its check, where its reading starts, its closing. Assumes nothing.
-use Prim.Native.Nat.{ℕ, zero, suc, _+_, _-_, _*_, _%_, _^_, _≤_, _<_, max, min}
-use native.Mathlib.Nat.{mod-lt, mul-pos, mul-assoc, mul-le-mul-right, zero-add}
+-- range may start and end inside a window, and the first window may be the destination's newest again. `paired` is the case where that window is read again
+-- in full, which the third demand's schedule leads to. Then the pair's call: its check, where its reading starts, its closing. Assumes nothing.
+use Prim.Native.Nat.{ℕ, zero, suc, _+_, _-_, _*_, _/_, _%_, _^_, _≤_, _<_, max, min}
+use native.Mathlib.Nat.{mod-lt, mul-pos, mul-assoc, mul-le-mul-right, mul-div-cancel, le-div-iff-mul-le, div-mul-le-self, zero-add}
 use native.Mathlib.Omega.{arith}
 use mathlib.Core.Path.{_≡_, refl}
 use mathlib.Core.Bool.{Bool, true, false}
@@ -15,7 +15,7 @@ use Rattle.model.specs.declared.TierFn.the-variants.{Some}
 use Rattle.model.specs.declared.WindowAnswer.the-variants.{Empty}
 use Rattle.model.specs.Words.{functionNo}
 use Rattle.model.specs.Ring.{Ring, stamp, cell, newest, oldest}
-use Rattle.model.specs.Window.{Job, windowAnswer}
+use Rattle.model.specs.Window.{Job, windowOf, windowAnswer}
 use Rattle.model.specs.Lent.{row, ring, withRing}
 use Rattle.model.specs.Consolidate.{Filled, Run, filled, stampsBelow, orZero, startOf, jobOf, withMark, closePair, pairWith, pairBy, pair}
 use Rattle.laws.specs.Tests.{yes-lt}
@@ -23,7 +23,7 @@ use Rattle.rings.specs.Sound.{some-slots}
 use Rattle.rings.specs.Column.{Col}
 use Rattle.rings.specs.Hold.{Slab, State, firstHeld, reads}
 use Rattle.rings.specs.Read.{InRange, range-from, held-in}
-use Rattle.pairs.specs.Windows.{job, Spans, spans-whole, windows-are}
+use Rattle.pairs.specs.Windows.{job, Spans, spans-any, windows-are}
 use Rattle.pairs.specs.Answers.{patternsOf, answerFor, answer-empty, answer-is}
 use Rattle.pairs.specs.Fill.{usedBelow, Full, Given, FilledBy, fill-windows}
 
@@ -76,35 +76,45 @@ module _ {A B : Ring} {u : ℕ → Bool} {X Y : ℕ → ℕ → ℕ} (Y' : ℕ �
           let c : Col (cell (A .slab) x) n a 0 (X x) = rw hu at (source .cols x hx) in
           answer-empty st za fn r lo hi ((a' + i) * (r * d)) x (λ s y. c .none s y (λ q z w. absurd (omega arith)))
 
--- ---- whole new windows
+-- ---- from the destination's newest window on
 
--- the source took the numbers a to a + k, the last of which ends a window; the destination took e, and all source numbers behind those are held
-module _ {A B : Ring} {u : ℕ → Bool} {X Y : ℕ → ℕ → ℕ} (fn : ConsolidationFn) {n n' m d a a' k e : ℕ} (r j : ℕ) (source : Full A u X n m d a (suc k))
-    (dest : Full B u Y n' m (r * d) a' e) (zr : 0 < r) (za : 0 < a) (za' : 0 < a') (to : a + suc k ≡ (a' + e + j) * r)
-    (reach : firstHeld n a (suc k) ≤ (a' + e) * r)
-    (given : (x y : ℕ) → x < m → u x ≡ true → a' ≤ y → suc y * r ≤ a + suc k → Given (answerFor fn (patternsOf (X x) (y * r) r)) (Y x y)) (some : 0 < usedBelow u m) where
-  pub paired : Paired (filled (job A fn (r * d) ((a' + e) * (r * d)) (suc ((a + k) * d))) B m) B u Y n' m (r * d) a' (e + j) j
+-- the source took the numbers a to a + k; the destination took e, its newest window, or its first, is read again, and all source numbers from there on are
+-- held. It takes the windows up to that of number a + k, which may be open
+module _ {A B : Ring} {u : ℕ → Bool} {X Y : ℕ → ℕ → ℕ} (Y' : ℕ → ℕ → ℕ) (fn : ConsolidationFn) {n n' m d a a' k e : ℕ} (r : ℕ) (source : Full A u X n m d a (suc k))
+    (dest : Full B u Y n' m (r * d) a' e) (zr : 0 < r) (za : 0 < a) (za' : 0 < a') (reach : firstHeld n a (suc k) ≤ (a' + (e - 1)) * r) (up : (a' + (e - 1)) * r ≤ a + k)
+    (below : (x q : ℕ) → x < m → u x ≡ true → a' ≤ q → q < a' + (e - 1) → Y' x q ≡ Y x q)
+    (given : (x y : ℕ) → x < m → u x ≡ true → a' + (e - 1) ≤ y → y * r ≤ a + k → Given (answerFor fn (patternsOf (X x) (y * r) (min (a + suc k) (suc y * r) - y * r))) (Y' x y))
+    (some : 0 < usedBelow u m) where
+  pub paired : Paired (filled (job A fn (r * d) ((a' + (e - 1)) * (r * d)) (suc ((a + k) * d))) B m) B u Y' n' m (r * d) a' (e - 1 + suc ((a + k) / r - (a' + (e - 1))))
+      (suc ((a + k) / r - (a' + (e - 1))))
   paired =
-      consolidated Y fn e source dest za za' zr
-      (mul-pos (omega arith) (mul-pos zr zd)) range (rw to (spans-whole r (a' + e) j zr)) (omega arith) (omega arith) (omega arith) (λ x q hx hu l t. refl) gives some
+      consolidated Y' fn (e - 1) source dest za za' zr
+      (mul-pos (omega arith) (mul-pos zr zd)) range spans (omega arith) (omega arith) (omega arith) below gives some
     where
       zd : 0 < d
       zd = source .state .slab-is .long
 
-      range : InRange d ((a' + e) * (r * d)) (suc ((a + k) * d)) (firstHeld n a (suc k)) (a + suc k) ((a' + e) * r) (a + suc k)
-      range =
-          let s : a + suc k ≡ suc (a + k) = omega arith in
-          let b : (a' + e) * r ≤ (a' + e + j) * r = mul-le-mul-right r (omega arith) in
-          rw (s, ← mul-assoc (a' + e) r d) (range-from d (firstHeld n a (suc k)) (a + k) ((a' + e) * r) zd reach (omega arith))
+      s : a + suc k ≡ suc (a + k)
+      s = omega arith
 
-      gives : (x y : ℕ) → x < m → u x ≡ true → a' + e ≤ y → y < a' + e + j
-          → Given (answerFor fn (patternsOf (X x) (max ((a' + e) * r) (y * r)) (min (a + suc k) (suc y * r) - max ((a' + e) * r) (y * r)))) (Y x y)
+      range : InRange d ((a' + (e - 1)) * (r * d)) (suc ((a + k) * d)) (firstHeld n a (suc k)) (a + suc k) ((a' + (e - 1)) * r) (a + suc k)
+      range = rw (s, ← mul-assoc (a' + (e - 1)) r d) (range-from d (firstHeld n a (suc k)) (a + k) ((a' + (e - 1)) * r) zd reach (omega arith))
+
+      spans : Spans r ((a' + (e - 1)) * r) (a + suc k) (a' + (e - 1)) (suc ((a + k) / r - (a' + (e - 1))))
+      spans = rw s (rw (mul-div-cancel (a' + (e - 1)) zr) at (spans-any r ((a' + (e - 1)) * r) (a + k) zr up))
+
+      last-window : (y : ℕ) → y < a' + (e - 1) + suc ((a + k) / r - (a' + (e - 1))) → y * r ≤ a + k
+      last-window y t =
+          let w : a' + (e - 1) ≤ (a + k) / r = le-div-iff-mul-le zr .1 up in
+          let v : y ≤ (a + k) / r = omega arith in
+          omega (arith, mul-le-mul-right r v, div-mul-le-self (a + k) r)
+
+      gives : (x y : ℕ) → x < m → u x ≡ true → a' + (e - 1) ≤ y → y < a' + (e - 1) + suc ((a + k) / r - (a' + (e - 1)))
+          → Given (answerFor fn (patternsOf (X x) (max ((a' + (e - 1)) * r) (y * r)) (min (a + suc k) (suc y * r) - max ((a' + (e - 1)) * r) (y * r)))) (Y' x y)
       gives x y hx hu l t =
-          let b : (a' + e) * r ≤ y * r = mul-le-mul-right r l in
-          let c : suc y * r ≤ (a' + e + j) * r = mul-le-mul-right r t in
-          let v : max ((a' + e) * r) (y * r) ≡ y * r = omega arith in
-          let w : min (a + suc k) (suc y * r) - y * r ≡ r = omega (arith, to) in
-          rw (v, w) (given x y hx hu (omega arith) (omega arith))
+          let b : (a' + (e - 1)) * r ≤ y * r = mul-le-mul-right r l in
+          let v : max ((a' + (e - 1)) * r) (y * r) ≡ y * r = omega arith in
+          rw v (given x y hx hu l (last-window y t))
 
 -- ---- the pair's call
 
@@ -120,15 +130,15 @@ pub pair-is : (v : Run) (i : ℕ) {fn : ConsolidationFn} {n m d : ℕ} → funct
 unfolding pair pairBy pairWith
 pair-is v i {n = n} f s = rw (f, s .sound .slots-is, stamps-below (ring (v .lent) i .slab) 0 n (λ x l. s .low x (omega arith)))
 
--- where its reading starts: at the oldest stamp, or one interval after the mark
-pub start-first : (x d y : ℕ) (r : Ring) → x ≡ 0 → oldest r ≡ At y → startOf x d r ≡ y
+-- where its reading starts: at the oldest stamp, or at the start of the mark's window
+pub start-first : (x long y : ℕ) (r : Ring) → x ≡ 0 → oldest r ≡ At y → startOf x long r ≡ y
 unfolding startOf orZero
-start-first x d y r e o = rw (e, o)
+start-first x long y r e o = rw (e, o)
 
-pub start-marked : (x d : ℕ) (r : Ring) → 0 < x → startOf x d r ≡ x + d
+pub start-marked : (x long : ℕ) (r : Ring) → 0 < x → startOf x long r ≡ windowOf long x
 unfolding startOf
-start-marked zero d r h = absurd (omega arith)
-start-marked (suc x) d r h = refl
+start-marked zero long r h = absurd (omega arith)
+start-marked (suc x) long r h = refl
 
 -- its closing: the destination is stored, each used column of each window counts, and the mark moves if there was one
 pub closed : {f : Filled} {B : Ring} {u : ℕ → Bool} {Y : ℕ → ℕ → ℕ} {n m d a e j : ℕ} (v : Run) (i t : ℕ) → Paired f B u Y n m d a e j

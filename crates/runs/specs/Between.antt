@@ -4,7 +4,7 @@ use Prim.Native.Nat.{ℕ, suc, _*_, _≤_, _<_}
 use native.Mathlib.Omega.{arith}
 use native.Mathlib.Decide.{decLt}
 use mathlib.Core.Path.{_≡_}
-use mathlib.Core.Bool.{Bool, true}
+use mathlib.Core.Bool.{true}
 use mathlib.Core.List.{List}
 use Rattle.model.specs.Ring.{cell}
 use Rattle.model.specs.Lent.{Lent, row, ring}
@@ -13,35 +13,36 @@ use Rattle.rings.specs.Column.{Col}
 use Rattle.rings.specs.Hold.{State}
 use Rattle.samples.specs.Lists.{ofColumn, valueAt}
 use Rattle.samples.specs.Ticks.{Steady, Regular, Reached}
+use Rattle.samples.specs.Schedule.{touched, lastStamp}
 use Rattle.runs.specs.Setup.{Setup, tierCount, intervalOf, slotsOf, firstNo, Tier, markOf, Base}
 
 -- the set-up is that of the samples xs
 pub record Fits (S : Setup) (xs : List Sample) : Type 0 where
-  pub steady : Steady (intervalOf S 0) (firstNo S 0) (S .most * S .per 0) xs
+  pub steady : Steady (intervalOf S 0) (firstNo S 0) (S .most) xs
   pub used-is : (c : ℕ) → S .isUsed c ≡ used c xs
-  pub value-is : (c q : ℕ) → S .value 0 c q ≡ valueAt c (q * intervalOf S 0) xs
+  pub value-is : (c q : ℕ) → S .tick c q ≡ valueAt c (q * intervalOf S 0) xs
 
 -- the columns of a finest ring with the cells C took the samples ys
 abbrev pub Taken : Setup → (ℕ → ℕ → ℕ) → List Sample → Type 0
-Taken S C ys = (x : ℕ) → x < S .columns → Col (C x) (slotsOf S 0) (firstNo S 0) (count (ofColumn x) ys) (S .value 0 x)
+Taken S C ys = (x : ℕ) → x < S .columns → Col (C x) (slotsOf S 0) (firstNo S 0) (count (ofColumn x) ys) (S .tick x)
 
--- after the samples ys, which reach tick e; the coarser tiers and all marks have N coarsest intervals; b: a run came last. The finest ring took e ticks, each
--- column its own samples, at its first ticks; at the most one coarsest interval of ticks came since the last run; no sample is of a column past the last
-pub record Between (S : Setup) (l : Lent) (ys : List Sample) (e N : ℕ) (b : Bool) : Type 0 where
+-- after the samples ys, which reach tick e; f of the ticks were in at the last run. The finest ring took e ticks, each column its own samples, at its first
+-- ticks; the coarser tiers and all marks have their numbers of f ticks; the ticks go no further than to the end of the coarsest interval after that of the
+-- last run; no sample is of a column past the last
+pub record Between (S : Setup) (l : Lent) (ys : List Sample) (e f : ℕ) : Type 0 where
   pub base : Base S l
   pub state : State (ring l 0) (slotsOf S 0) (S .columns) (intervalOf S 0) (firstNo S 0) e
   pub cols : Taken S (cell (ring l 0 .slab)) ys
-  pub tiers : (j : ℕ) → 0 < j → j < tierCount S → Tier S l j N
-  pub marks : (j : ℕ) → suc j < tierCount S → row l j .mark ≡ markOf S j N
+  pub tiers : (j : ℕ) → 0 < j → j < tierCount S → Tier S l j f
+  pub marks : (j : ℕ) → suc j < tierCount S → row l j .mark ≡ markOf S j f
   pub regular : (c : ℕ) → Regular (intervalOf S 0) (firstNo S 0) ys c
-  pub reached : Reached (intervalOf S 0) (firstNo S 0) (S .most * S .per 0) ys e
-  pub low : N * S .per 0 ≤ e
-  pub high : e ≤ suc N * S .per 0
-  pub run-here : b ≡ true → e ≡ N * S .per 0
+  pub reached : Reached (intervalOf S 0) (firstNo S 0) (S .most) ys e
+  pub low : f ≤ e
+  pub high : e ≤ suc (touched (S .per 0) f) * S .per 0
   pub known : (c : ℕ) → S .columns ≤ c → count (ofColumn c) ys ≡ 0
 
 -- a column with a sample is one of the store's
-pub column-in : {S : Setup} {l : Lent} {ys : List Sample} {e N : ℕ} {b : Bool} → Between S l ys e N b → (c : ℕ) → 0 < count (ofColumn c) ys → c < S .columns
+pub column-in : {S : Setup} {l : Lent} {ys : List Sample} {e f : ℕ} → Between S l ys e f → (c : ℕ) → 0 < count (ofColumn c) ys → c < S .columns
 column-in {S} {l} {ys} h c z = go (decLt c (S .columns))
   where
     go : Dec (c < S .columns) → c < S .columns
@@ -51,7 +52,6 @@ column-in {S} {l} {ys} h c z = go (decLt c (S .columns))
 -- such a store, where the events to come are on schedule
 pub record Next (S : Setup) (l : Lent) (ys : List Sample) (rest : List Event) : Type 0 where
   pub e : ℕ
-  pub N : ℕ
-  pub b : Bool
-  pub store : Between S l ys e N b
-  pub on-schedule : scheduled (intervalOf S 0) (S .coarsest) (lastOf ys) b rest ≡ true
+  pub f : ℕ
+  pub store : Between S l ys e f
+  pub on-schedule : scheduled (S .coarsest) (lastOf ys) (lastStamp (intervalOf S 0) (firstNo S 0) f) rest ≡ true

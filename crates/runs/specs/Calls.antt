@@ -4,7 +4,7 @@
 use Prim.Native.Nat.{ℕ, zero, suc, _^_, _<_}
 use native.Mathlib.Omega.{arith}
 use mathlib.Core.Path.{_≡_, refl, sym, ap, _∙_}
-use mathlib.Core.Bool.{Bool, true}
+use mathlib.Core.Bool.{true}
 use mathlib.Core.List.{List, [], _∷_, _++_, append-assoc, append-nil, map, map-map}
 use lib.Dec.{ltb}
 use Rattle.model.specs.Image.{rowCount, schemas}
@@ -17,7 +17,8 @@ use Rattle.laws.specs.Tests.{and-left, and-right, lt-is}
 use Rattle.frame.specs.Tiers.{rowNo-one, series-one}
 use Rattle.samples.specs.Lists.{samples-append, samples-took}
 use Rattle.samples.specs.Batch.{AllAt}
-use Rattle.runs.specs.Setup.{Setup, intervalOf, Base, row-in, series-fixed}
+use Rattle.samples.specs.Schedule.{lastStamp}
+use Rattle.runs.specs.Setup.{Setup, intervalOf, firstNo, Base, row-in, series-fixed}
 use Rattle.runs.specs.Accepted.{record-zero, batch-zero}
 use Rattle.runs.specs.Between.{Fits, Between, Next}
 use Rattle.runs.specs.Written.{valueOf, AllIn, written}
@@ -50,14 +51,14 @@ abbrev Stored : Setup → Lent → ℕ → Lent → List Sample → Type 0
 Stored S l t l' [] = l' ≡ l
 Stored S l t l' (y ∷ ts) = (l' ≡ writeTo l 0 (map valueOf (y ∷ ts)) t) × (t < 2 ^ 63) × AllAt t (y ∷ ts) × AllIn (S .columns) (y ∷ ts)
 
-module _ {S : Setup} {l : Lent} {ys : List Sample} (more : List Event) {e N : ℕ} {b : Bool} (lv : Between S l ys e N b) where
+module _ {S : Setup} {l : Lent} {ys : List Sample} (more : List Event) {e g : ℕ} (lv : Between S l ys e g) where
   abbrev OnSchedule : List Event → Type 0
-  OnSchedule es = scheduled (intervalOf S 0) (S .coarsest) (lastOf ys) b (es ++ more) ≡ true
+  OnSchedule es = scheduled (S .coarsest) (lastOf ys) (lastStamp (intervalOf S 0) (firstNo S 0) g) (es ++ more) ≡ true
 
   -- nothing happened
   idle : OnSchedule [] → Next S l (ys ++ samplesIn []) more
   unfolding samplesIn
-  idle sch = rw (append-nil ys) (record { e = e; N = N; b = b; store = lv; on-schedule = sch })
+  idle sch = rw (append-nil ys) (record { e = e; f = g; store = lv; on-schedule = sch })
 
   stored : (l' : Lent) (t : ℕ) (xs : List Sample) → Stored S l t l' xs → Fits S (ys ++ samplesIn (map took xs ++ more)) → OnSchedule (map took xs)
       → Next S l' (ys ++ samplesIn (map took xs)) more
@@ -116,9 +117,9 @@ module _ {S : Setup} {l : Lent} (base : Base S l) where
 
 -- ---- any call
 
-one-call : {S : Setup} {l : Lent} {ys : List Sample} (more : List Event) {e N : ℕ} {b : Bool} → Between S l ys e N b → (c : Call)
+one-call : {S : Setup} {l : Lent} {ys : List Sample} (more : List Event) {e g : ℕ} → Between S l ys e g → (c : Call)
     → Fits S (ys ++ samplesIn (eventsOf l c ++ more))
-    → scheduled (intervalOf S 0) (S .coarsest) (lastOf ys) b (eventsOf l c ++ more) ≡ true → Next S (call l c .lent) (ys ++ samplesIn (eventsOf l c)) more
+    → scheduled (S .coarsest) (lastOf ys) (lastStamp (intervalOf S 0) (firstNo S 0) g) (eventsOf l c ++ more) ≡ true → Next S (call l c .lent) (ys ++ samplesIn (eventsOf l c)) more
 unfolding call eventsOf
 one-call {l = l} more lv (recordCall k c v t) f sch =
     recorded more lv (recordCheck l k c v t) (λ n. recordOn n l k c v t) t (record { column = c; stamp = t; value = v } ∷ [])
@@ -132,7 +133,7 @@ one-call more lv (queryCall k c tier start end) f sch = idle more lv sch
 one-call more lv (autoCall k c start end) f sch = idle more lv sch
 one-call {ys = ys} more lv consolidateCall f sch =
     unfold finished samplesIn in (
-    rw (append-nil ys) (let r = ran-here more lv f sch in record { e = r .e; N = r .N; b = true; store = r .store; on-schedule = r .on-schedule }))
+    rw (append-nil ys) (let r = ran-here more lv f sch in record { e = r .e; f = r .e; store = r .store; on-schedule = r .on-schedule }))
 
 -- ---- a list of calls
 

@@ -1,6 +1,6 @@
 -- The query after a run. Calls without events leave the store as it is; the query of a used column over all time is not refused, and its reader hands out
 -- the newest numbers that the tier's ring holds, ascending, each with its value. Assumes nothing.
-use Prim.Native.Nat.{ℕ, zero, suc, _+_, _-_, _*_, _^_, _≤_, _<_}
+use Prim.Native.Nat.{ℕ, zero, suc, _+_, _-_, _*_, _/_, _^_, _≤_, _<_}
 use native.Mathlib.Nat.{mul-le-mul-right, mul-pos}
 use native.Mathlib.Omega.{arith}
 use mathlib.Core.Path.{_≡_, refl, ap, _∙_}
@@ -18,7 +18,8 @@ use Rattle.rings.specs.Hold.{firstHeld}
 use Rattle.rings.specs.Read.{pts, all-points}
 use Rattle.frame.specs.Good.{open-good}
 use Rattle.frame.specs.Tiers.{length-one}
-use Rattle.runs.specs.Setup.{Setup, tierCount, intervalOf, slotsOf, firstNo, Tier, end-stamp}
+use Rattle.samples.specs.Schedule.{touched}
+use Rattle.runs.specs.Setup.{Setup, tierCount, intervalOf, slotsOf, firstNo, Tier, newest-low}
 use Rattle.runs.specs.Run.{Settled}
 use Rattle.runs.specs.Calls.{rowNo-is, series-are}
 
@@ -64,7 +65,7 @@ idle-calls (c ∷ cs) l h =
 
 -- ---- the query
 
-module _ {S : Setup} {l : Lent} {N : ℕ} (st : Settled S l N) (top : N ≤ S .most) (c k : ℕ) (hc : c < S .columns) (hu : S .isUsed c ≡ true) (hk : k < tierCount S) where
+module _ {S : Setup} {l : Lent} {x : ℕ} (st : Settled S l (suc x)) (top : suc x ≤ S .most) (c k : ℕ) (hc : c < S .columns) (hu : S .isUsed c ≡ true) (hk : k < tierCount S) where
   check : queryCheck l 0 c k 0 (2 ^ 64 - 1) ≡ 0
   unfolding queryCheck first unless handleOk
   check =
@@ -79,24 +80,22 @@ module _ {S : Setup} {l : Lent} {N : ℕ} (st : Settled S l N) (top : N ≤ S .m
         yes-lt k (tierCount S) hk,
       )
 
-  tier : Tier S l k N
+  tier : Tier S l k (suc x)
   tier = st .tiers k hk
 
   -- stamps are below the end of all time
-  stamp-low : (q : ℕ) → q < firstNo S k + N * S .per k → q * intervalOf S k < 2 ^ 64 - 1
+  stamp-low : (q : ℕ) → q < firstNo S k + touched (S .long k) (suc x) → q * intervalOf S k < 2 ^ 64 - 1
+  unfolding touched
   stamp-low q h =
-      let m : S .first + N ≤ S .first + S .most = omega arith in
-      omega (arith, end-stamp S k N hk, mul-le-mul-right (intervalOf S k) h, mul-le-mul-right (S .coarsest) m, S .low k hk)
+      let b : q * intervalOf S k ≤ (firstNo S k + x / S .long k) * intervalOf S k = mul-le-mul-right (intervalOf S k) (omega arith) in
+      omega (arith, newest-low S k x hk (omega arith))
 
   -- what the reader hands out
   pub answer-is : handedOut (call l (queryCall 0 c k 0 (2 ^ 64 - 1)) .reply)
-      ≡ pts (S .value k c) (intervalOf S k) (firstHeld (slotsOf S k) (firstNo S k) (N * S .per k))
-      (firstNo S k + N * S .per k - firstHeld (slotsOf S k) (firstNo S k) (N * S .per k))
+      ≡ pts (S .value (suc x) k c) (intervalOf S k) (firstHeld (slotsOf S k) (firstNo S k) (touched (S .long k) (suc x)))
+      (firstNo S k + touched (S .long k) (suc x) - firstHeld (slotsOf S k) (firstNo S k) (touched (S .long k) (suc x)))
   unfolding call readOr query queryOn answered handedOut
   answer-is =
       rw (check, rowNo-is (st .base) k)
-      (all-points (tier .state) (mul-pos (S .later) (S .some-per k hk)) c (S .value k c) (2 ^ 64 - 1) hc (rw hu at (tier .cols c hc))
-      (λ q x y. S .number k c q hk hc hu x (below q y)) stamp-low)
-    where
-      below : (q : ℕ) → q < firstNo S k + N * S .per k → q < (S .first + S .most) * S .per k
-      below q h = omega (arith, mul-le-mul-right (S .per k) top)
+      (all-points (tier .state) (mul-pos (S .later) (S .some-per k hk)) c (S .value (suc x) k c) (2 ^ 64 - 1) hc (rw hu at (tier .cols c hc))
+      (λ q y z. S .number (suc x) k c q top hk hc hu y z) stamp-low)

@@ -1,9 +1,10 @@
 -- What stays fixed through a list of calls: the plan, its tiers in whole windows of each other, the used columns and the values that every tier takes; and
 -- the store that belongs to it: in good order, its rows the plan's. Then a ring put back into its place, and a mark stored: the store still belongs to the set-up,
 -- every other ring and mark stays. Assumes nothing.
-use Prim.Native.Nat.{ℕ, zero, suc, _+_, _-_, _*_, _^_, _≤_, _<_}
+use Prim.Native.Nat.{ℕ, zero, suc, _+_, _-_, _*_, _/_, _^_, _≤_, _<_, min}
+use native.Mathlib.Nat.{mul-assoc, mul-le-mul-right, div-mul-le-self}
 use native.Mathlib.Omega.{arith}
-use mathlib.Core.Path.{_≡_, refl, ap, _∙_}
+use mathlib.Core.Path.{_≡_, refl, sym, ap, _∙_}
 use mathlib.Core.Logic.{_≢_}
 use mathlib.Core.Bool.{Bool, true, false}
 use mathlib.Core.List.{List}
@@ -23,6 +24,7 @@ use Rattle.frame.specs.Good.{Good, length-sound, setMark, count-kept, schemas-k
 use Rattle.frame.specs.Frame.{row-with, ring-same, ring-other}
 use Rattle.frame.specs.Mark.{row-withMark, row-withMark-other, ring-withMark}
 use Rattle.frame.specs.Stays.{Stays, stays-ring, stays-mark}
+use Rattle.samples.specs.Schedule.{touched}
 
 -- ---- what is fixed
 
@@ -31,30 +33,41 @@ pub record Setup : Type 0 where
   pub columns : ℕ
   -- the coarsest interval
   pub coarsest : ℕ
-  -- the first sample's stamp is the start of this coarsest interval, and there are samples for this many of them at the most
+  -- the first sample's stamp is the start of this coarsest interval, and there are this many ticks at the most
   pub first : ℕ
   pub most : ℕ
-  -- a coarsest interval is so many intervals of tier k, and an interval of tier k + 1 is so many of tier k
+  -- a coarsest interval is so many intervals of tier k, an interval of tier k + 1 is so many of tier k, and one of tier k so many ticks
   pub per : ℕ → ℕ
   pub ratio : ℕ → ℕ
+  pub long : ℕ → ℕ
   pub isUsed : ℕ → Bool
-  -- the pattern of tier k, column c, interval number q
-  pub value : ℕ → ℕ → ℕ → ℕ
+  -- the pattern of column c at tick q; and that of tier k, column c, interval number q, where e ticks are in: of those of its samples that are among them
+  pub tick : ℕ → ℕ → ℕ
+  pub value : ℕ → ℕ → ℕ → ℕ → ℕ
   pub some : 0 < rowCount plan
   pub series-is : (k : ℕ) → k < rowCount plan → rowAt plan k .series ≡ columns
   pub average : (k : ℕ) → suc k < rowCount plan → rowAt plan (suc k) .function ≡ 1
   pub coarsest-is : (k : ℕ) → k < rowCount plan → coarsest ≡ per k * rowAt plan k .interval
   pub next-interval : (k : ℕ) → suc k < rowCount plan → rowAt plan (suc k) .interval ≡ ratio k * rowAt plan k .interval
   pub next-per : (k : ℕ) → suc k < rowCount plan → per k ≡ per (suc k) * ratio k
+  pub first-long : long 0 ≡ 1
+  pub next-long : (k : ℕ) → suc k < rowCount plan → long (suc k) ≡ long k * ratio k
+  pub per-long : (k : ℕ) → k < rowCount plan → per 0 ≡ per k * long k
+  pub interval-long : (k : ℕ) → k < rowCount plan → rowAt plan k .interval ≡ long k * rowAt plan 0 .interval
   pub some-ratio : (k : ℕ) → suc k < rowCount plan → 0 < ratio k
   pub some-per : (k : ℕ) → k < rowCount plan → 0 < per k
-  pub span : (k : ℕ) → k < rowCount plan → per k ≤ rowSlots (rowAt plan k)
+  pub some-long : (k : ℕ) → k < rowCount plan → 0 < long k
+  pub span : (k : ℕ) → suc k < rowCount plan → 2 * per k ≤ rowSlots (rowAt plan k)
   pub later : 0 < first
-  pub low : (k : ℕ) → k < rowCount plan → (first + most) * coarsest < 2 ^ 63 + rowAt plan k .interval
-  pub number : (k c q : ℕ) → k < rowCount plan → c < columns → isUsed c ≡ true → first * per k ≤ q → q < (first + most) * per k
-      → isNaN (value k c q) ≡ false
-  pub given : (k c q : ℕ) → suc k < rowCount plan → c < columns → isUsed c ≡ true → first * per (suc k) ≤ q → q < (first + most) * per (suc k)
-      → Given (answerFor Average (patternsOf (value k c) (q * ratio k) (ratio k))) (value (suc k) c q)
+  pub low : (first * per 0 + most) * rowAt plan 0 .interval < 2 ^ 63 + rowAt plan 0 .interval
+  pub value-tick : (e c q : ℕ) → value e 0 c q ≡ tick c q
+  pub number : (e k c q : ℕ) → e ≤ most → k < rowCount plan → c < columns → isUsed c ≡ true → first * per k ≤ q → q < first * per k + touched (long k) e
+      → isNaN (value e k c q) ≡ false
+  -- a window's value is the average of what the tier below has of it
+  pub given : (e k c q : ℕ) → e ≤ most → suc k < rowCount plan → c < columns → isUsed c ≡ true → first * per (suc k) ≤ q → q < first * per (suc k) + touched (long (suc k)) e
+      → Given (answerFor Average (patternsOf (value e k c) (q * ratio k) (min (first * per k + touched (long k) e) (suc q * ratio k) - q * ratio k))) (value e (suc k) c q)
+  -- and changes no more once it is closed
+  pub closed : (e f k c q : ℕ) → f ≤ e → k < rowCount plan → suc q * long k ≤ first * per 0 + f → value e k c q ≡ value f k c q
 
 abbrev pub tierCount : Setup → ℕ
 tierCount S = rowCount (S .plan)
@@ -69,25 +82,29 @@ slotsOf S k = rowSlots (rowAt (S .plan) k)
 abbrev pub firstNo : Setup → ℕ → ℕ
 firstNo S k = S .first * S .per k
 
--- a ring of tier k that took e numbers
+-- a ring of tier k that took its numbers of the first e ticks
 abbrev pub Holds : Setup → Ring → ℕ → ℕ → Type 0
-Holds S r k e = Full r (S .isUsed) (S .value k) (slotsOf S k) (S .columns) (intervalOf S k) (firstNo S k) e
+Holds S r k e = Full r (S .isUsed) (S .value e k) (slotsOf S k) (S .columns) (intervalOf S k) (firstNo S k) (touched (S .long k) e)
 
--- tier k of the store after N coarsest intervals
+-- tier k of the store, as a run after e ticks leaves it
 abbrev pub Tier : Setup → Lent → ℕ → ℕ → Type 0
-Tier S l k N = Holds S (ring l k) k (N * S .per k)
+Tier S l k e = Holds S (ring l k) k e
 
--- where they end, as a stamp
-pub end-stamp : (S : Setup) (k N : ℕ) → k < tierCount S → (firstNo S k + N * S .per k) * intervalOf S k ≡ (S .first + N) * S .coarsest
-end-stamp S k N h = lin (S .first) N (S .per k) (intervalOf S k) (S .coarsest) (S .coarsest-is k h)
-  where
-    lin : (A N p d D : ℕ) → D ≡ p * d → (A * p + N * p) * d ≡ (A + N) * D
-    lin A N p d D e = rw e (omega arith)
-
--- the mark of tier k then
+-- the mark of tier k then: its newest number's stamp
 unfoldable pub markOf : Setup → ℕ → ℕ → ℕ
 markOf S k zero = 0
-markOf S k (suc N) = (S .first + suc N) * S .coarsest - intervalOf S k
+markOf S k (suc x) = (firstNo S k + x / S .long k) * intervalOf S k
+
+-- it is no later than the tick's
+pub newest-low : (S : Setup) (k x : ℕ) → k < tierCount S → x < S .most → (firstNo S k + x / S .long k) * intervalOf S k < 2 ^ 63
+newest-low S k x h l =
+    let a : firstNo S k * S .long k ≡ S .first * S .per 0 = mul-assoc (S .first) (S .per k) (S .long k) ∙ ap (λ (v : ℕ). S .first * v) (sym (S .per-long k h)) in
+    let b : (firstNo S k + x / S .long k) * S .long k ≤ S .first * S .per 0 + x = omega (arith, a, div-mul-le-self x (S .long k)) in
+    let c = mul-le-mul-right (intervalOf S 0) b in
+    let d : (firstNo S k + x / S .long k) * intervalOf S k ≡ (firstNo S k + x / S .long k) * S .long k * intervalOf S 0 =
+    ap (λ (v : ℕ). (firstNo S k + x / S .long k) * v) (S .interval-long k h) ∙ sym (mul-assoc (firstNo S k + x / S .long k) (S .long k) (intervalOf S 0)) in
+    let t : suc (S .first * S .per 0 + x) * intervalOf S 0 ≤ (S .first * S .per 0 + S .most) * intervalOf S 0 = mul-le-mul-right (intervalOf S 0) (omega arith) in
+    omega (arith, c, d, t, S .low)
 
 -- ---- a store that belongs to it
 

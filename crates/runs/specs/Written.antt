@@ -6,7 +6,7 @@ use native.Mathlib.Omega.{arith}
 use native.Mathlib.Decide.{ℕ-discrete}
 use mathlib.Core.Path.{_≡_, refl, sym, ap, _∙_, subst}
 use mathlib.Core.Logic.{_⊎_, inl, inr}
-use mathlib.Core.Bool.{Bool, true, false, false≢true}
+use mathlib.Core.Bool.{true}
 use mathlib.Core.List.{List, [], _∷_, _++_, append-assoc, append-nil, map}
 use lib.Dec.{ltb}
 use lib.Ieee.{binary64, ofBits}
@@ -22,7 +22,7 @@ use Rattle.rings.specs.Step.{at-number, step-at}
 use Rattle.samples.specs.Lists.{ofColumn, count-append, at-yes, last-append, value-here}
 use Rattle.samples.specs.Ticks.{Steady, Regular, next-tick, count-own, count-else, regular-next}
 use Rattle.samples.specs.Batch.{AllAt, Ticked, ticked}
-use Rattle.samples.specs.Schedule.{mayTake, sched-first, stay}
+use Rattle.samples.specs.Schedule.{touched, lastStamp, mayTake, sched-first, stay}
 use Rattle.runs.specs.Setup.{Setup, tierCount, intervalOf, slotsOf, firstNo, Holds, Put, put-ring}
 use Rattle.runs.specs.Between.{Fits, Taken, Between, Next}
 
@@ -72,12 +72,12 @@ module _ {S : Setup} (zs : List Sample) (t q : ℕ) (tq : t ≡ q * intervalOf S
       a = firstNo S 0
 
       n : ℕ
-      n = S .most * S .per 0
+      n = S .most
 
       k : ℕ
       k = count (ofColumn (y .column)) ys
 
-      st : Steady (intervalOf S 0) (firstNo S 0) (S .most * S .per 0) (ys ++ y ∷ (ts ++ zs))
+      st : Steady (intervalOf S 0) (firstNo S 0) (S .most) (ys ++ y ∷ (ts ++ zs))
       st = f .steady
 
       tick : y .stamp ≡ (a + k) * d
@@ -86,27 +86,27 @@ module _ {S : Setup} (zs : List Sample) (t q : ℕ) (tq : t ≡ q * intervalOf S
       num : a + k ≡ q
       num = eq-of-mul-eq-mul-right d (st .long) (a + k) q (sym tick ∙ at .0 ∙ tq)
 
-      value : S .value 0 (y .column) (a + k) ≡ y .value
+      value : S .tick (y .column) (a + k) ≡ y .value
       value =
           f .value-is (y .column) (a + k)
           ∙ value-here (y .column) ((a + k) * d) ys y (ts ++ zs) (reg (y .column) .never (a + k) (omega arith)) (at-yes y (y .column) ((a + k) * d) refl tick)
 
       one : (x : ℕ) → x < S .columns → Dec (x ≡ y .column)
-          → Col (setCell C (q % slotsOf S 0) (y .column) (y .value) x) (slotsOf S 0) a (count (ofColumn x) (ys ++ y ∷ [])) (S .value 0 x)
+          → Col (setCell C (q % slotsOf S 0) (y .column) (y .value) x) (slotsOf S 0) a (count (ofColumn x) (ys ++ y ∷ [])) (S .tick x)
       one x hx (yes e) =
-          subst (λ (x : ℕ). Col (setCell C (q % slotsOf S 0) (y .column) (y .value) x) (slotsOf S 0) a (count (ofColumn x) (ys ++ y ∷ [])) (S .value 0 x)) (sym e)
+          subst (λ (x : ℕ). Col (setCell C (q % slotsOf S 0) (y .column) (y .value) x) (slotsOf S 0) a (count (ofColumn x) (ys ++ y ∷ [])) (S .tick x)) (sym e)
           (rw (count-own d a n ys y (ts ++ zs) st reg, ← num)
-          (col-next C (slotsOf S 0) (y .column) (y .value) a k (S .value 0 (y .column)) some value (h (y .column) (subst (λ (i : ℕ). i < S .columns) e hx))))
+          (col-next C (slotsOf S 0) (y .column) (y .value) a k (S .tick (y .column)) some value (h (y .column) (subst (λ (i : ℕ). i < S .columns) e hx))))
       one x hx (no ne) =
           rw (count-else d a n ys y (ts ++ zs) st reg x (λ e. ne (sym e)))
-          (col-same (C x) (setCell C (q % slotsOf S 0) (y .column) (y .value) x) (slotsOf S 0) a (count (ofColumn x) ys) (S .value 0 x) some
+          (col-same (C x) (setCell C (q % slotsOf S 0) (y .column) (y .value) x) (slotsOf S 0) a (count (ofColumn x) ys) (S .tick x) some
           (λ i hi. set-other C (q % slotsOf S 0) (y .column) (y .value) x ne i) (h x hx))
 
 -- written to the finest ring
-module _ {S : Setup} {l : Lent} {ys : List Sample} {e N : ℕ} {b : Bool} (lv : Between S l ys e N b) (y : Sample) (ts zs : List Sample) (f : Fits S (ys ++ (y ∷ ts ++ zs)))
+module _ {S : Setup} {l : Lent} {ys : List Sample} {e g : ℕ} (lv : Between S l ys e g) (y : Sample) (ts zs : List Sample) (f : Fits S (ys ++ (y ∷ ts ++ zs)))
     (t : ℕ) (at : AllAt t (y ∷ ts)) (low : t < 2 ^ 63) (inside : AllIn (S .columns) (y ∷ ts)) where
-  tk : Ticked (intervalOf S 0) (firstNo S 0) (S .most * S .per 0) t zs ys (y ∷ ts) e
-  tk = ticked (intervalOf S 0) (firstNo S 0) (S .most * S .per 0) t zs y ts ys e (f .steady) at (lv .regular) (lv .reached)
+  tk : Ticked (intervalOf S 0) (firstNo S 0) (S .most) t zs ys (y ∷ ts) e
+  tk = ticked (intervalOf S 0) (firstNo S 0) (S .most) t zs y ts ys e (f .steady) at (lv .regular) (lv .reached)
 
   -- the tick's number is firstNo + k
   k : ℕ
@@ -163,42 +163,41 @@ module _ {S : Setup} {l : Lent} {ys : List Sample} {e N : ℕ} {b : Bool} (lv : 
   cols-new x hx =
       let z = some-slots (lv .state .slab-is .sound) in
       col-same (setCells (cell (ring l 0 .slab)) ((firstNo S 0 + k) % slotsOf S 0) (map valueOf (y ∷ ts)) x) (cell (new .slab) x)
-      (slotsOf S 0) (firstNo S 0) (count (ofColumn x) (ys ++ y ∷ ts)) (S .value 0 x)
+      (slotsOf S 0) (firstNo S 0) (count (ofColumn x) (ys ++ y ∷ ts)) (S .tick x)
       z (λ i hi. wrote .cells x i (rw (lv .state .slab-is .sound .slots-is) hi))
       (cells-after zs t (firstNo S 0 + k) t-is z (y ∷ ts) ys (cell (ring l 0 .slab)) f at (lv .regular) (lv .cols) x hx)
 
   put-new : Put S l 0 new (withRing l 0 new)
   put-new = put-ring (lv .base) 0 first-in new (state-new .slab-is .sound) (wrote .rest .header)
 
-  pub written : (rest : List Event) → scheduled (intervalOf S 0) (S .coarsest) (lastOf ys) b (map took (y ∷ ts) ++ rest) ≡ true
+  pub written : (rest : List Event) → scheduled (S .coarsest) (lastOf ys) (lastStamp (intervalOf S 0) (firstNo S 0) g) (map took (y ∷ ts) ++ rest) ≡ true
       → Next S (withRing l 0 (write (ring l 0) (map valueOf (y ∷ ts)) t)) (ys ++ y ∷ ts) rest
   unfolding new
   written rest sch =
-      let s = sched-first (intervalOf S 0) (S .coarsest) t (lastOf ys) b y ts rest at sch in
+      let s = sched-first (S .coarsest) t (lastOf ys) (lastStamp (intervalOf S 0) (firstNo S 0) g) y ts rest at sch in
       record {
         e = suc k;
-        N = N;
-        b = false;
+        f = g;
         store = record {
           base = put-new .base;
           state = rw (put-new .there) state-new;
           cols = rw (put-new .there) cols-new;
-          tiers = λ j hj hk. subst (λ (r : Ring). Holds S r j (N * S .per j)) (sym (put-new .elsewhere j hk (omega arith))) (lv .tiers j hj hk);
+          tiers = λ j hj hk. subst (λ (r : Ring). Holds S r j g) (sym (put-new .elsewhere j hk (omega arith))) (lv .tiers j hj hk);
           marks = λ j hj. put-new .marks j (omega arith) ∙ lv .marks j hj;
           regular = tk .regular;
           reached = rw reach-is at (tk .reached);
           low = omega (arith, to, lv .low);
           high = higher (s .0) (tk .either);
-          run-here = λ z. absurd (false≢true z);
           known = λ c hc. omega (arith, count-append (ofColumn c) ys (y ∷ ts), lv .known c hc, none-high (S .columns) c (y ∷ ts) inside hc);
         };
         on-schedule = rw (last-append ys y ts, last-all t y ts at) (s .1);
       }
     where
-      higher : mayTake (intervalOf S 0) (S .coarsest) (lastOf ys) b t ≡ true → (tk .reach ≡ e) ⊎ (tk .reach ≡ suc e) → suc k ≤ suc N * S .per 0
+      higher : mayTake (S .coarsest) (lastOf ys) (lastStamp (intervalOf S 0) (firstNo S 0) g) t ≡ true → (tk .reach ≡ e) ⊎ (tk .reach ≡ suc e)
+          → suc k ≤ suc (touched (S .per 0) g) * S .per 0
       higher s (inl p) = omega (arith, reach-is, lv .high)
       higher s (inr p) =
-          let h = stay (intervalOf S 0) (S .coarsest) (S .per 0) (S .first) N e (lastOf ys) t b
+          let h = stay (intervalOf S 0) (S .coarsest) (S .per 0) (S .first) e g (lastOf ys) t
           (S .coarsest-is 0 first-in) (f .steady .long) (S .some-per 0 first-in) (S .later)
-          (lv .low) (lv .high) (lv .run-here) (lv .reached .last-is) (tk .top ∙ ap (λ (i : ℕ). (firstNo S 0 + i) * intervalOf S 0) p) s in
+          (lv .high) (lv .reached .last-is) (tk .top ∙ ap (λ (i : ℕ). (firstNo S 0 + i) * intervalOf S 0) p) s in
           omega (arith, reach-is)

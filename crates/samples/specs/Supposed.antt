@@ -1,7 +1,7 @@
--- What the supposition says of the samples: they are steady (Ticks), and their ticks are whole coarsest intervals where the last event is a run. From
+-- What the supposition says of the samples: they are steady (Ticks), from the start of a coarsest interval on. From
 -- here on the theorem speaks of ticks and no longer of tests over lists. Assumes nothing.
 use Prim.Native.Nat.{ℕ, zero, suc, _+_, _-_, _*_, _/_, _%_, _≤_, _<_}
-use native.Mathlib.Nat.{zero-mul, mul-pos, mul-div-cancel, le-of-mul-le-mul-right, lt-of-mul-lt-mul-right}
+use native.Mathlib.Nat.{zero-mul, mul-div-cancel, le-of-mul-le-mul-right}
 use native.Mathlib.Omega.{arith}
 use mathlib.Core.Path.{_≡_, refl, sym, ap, _∙_, subst}
 use mathlib.Core.Bool.{Bool, true}
@@ -57,7 +57,7 @@ module _ (d a : ℕ) (xs : List Sample) (zd : 0 < d) (first : firstOf xs ≡ a *
       let e : (a + i) * d ≡ firstOf xs + i * d = rw first (omega arith) in
       rw e (gap-at c d (firstOf xs) (ticks d xs) i xs g l)
 
-  last-tick : lastOf xs % d ≡ 0
+  pub last-tick : lastOf xs % d ≡ 0
   last-tick = go xs refl
     where
       go : (l : List Sample) → xs ≡ l → lastOf xs % d ≡ 0
@@ -90,40 +90,32 @@ module _ (d a : ℕ) (xs : List Sample) (zd : 0 < d) (first : firstOf xs ≡ a *
           low : firstOf (x ∷ l) ≡ a * d → a * d ≤ x .stamp
           low e = unfold firstOf in (omega arith)
 
--- ---- whole coarsest intervals
+-- ---- from the start of a coarsest interval on
 
--- the first sample begins coarsest interval A, and the last ends the Z-th from there; ρ ticks make one
+-- the first sample begins coarsest interval A, ρ ticks long; the last is at the last tick
 pub record Spans (d D ρ : ℕ) (xs : List Sample) : Type 0 where
   pub A : ℕ
-  pub Z : ℕ
   pub A-pos : 0 < A
   pub first-is : firstOf xs ≡ A * D
-  pub last-is : lastOf xs + d ≡ (A + Z) * D
-  pub ticks-are : ticks d xs ≡ Z * ρ
+  pub last-is : lastOf xs + d ≡ (A * ρ + ticks d xs) * d
 
-pub spans : (d D ρ : ℕ) (xs : List Sample) → 0 < d → 0 < ρ → D ≡ ρ * d → 0 < firstOf xs → firstOf xs % D ≡ 0 → firstOf xs ≤ lastOf xs
-    → (lastOf xs + d) % D ≡ 0 → Spans d D ρ xs
+pub spans : (d D ρ : ℕ) (xs : List Sample) → 0 < d → D ≡ ρ * d → 0 < firstOf xs → firstOf xs % D ≡ 0 → firstOf xs ≤ lastOf xs → lastOf xs % d ≡ 0 → Spans d D ρ xs
 unfolding ticks
-spans d D ρ xs zd zρ dD pos fw le lw = go (firstOf xs / D) ((lastOf xs + d) / D) (multiple (firstOf xs) D fw) (multiple (lastOf xs + d) D lw)
+spans d D ρ xs zd dD pos fw le lw = go (firstOf xs / D) (lastOf xs / d) (multiple (firstOf xs) D fw) (multiple (lastOf xs) d lw)
   where
     some : (a : ℕ) → firstOf xs ≡ a * D → 0 < a
     some zero e = absurd (omega (arith, e ∙ zero-mul D))
     some (suc a) e = omega arith
 
-    go : (a k : ℕ) → firstOf xs ≡ a * D → lastOf xs + d ≡ k * D → Spans d D ρ xs
-    go a k fa lk =
-        let ak : a < k = lt-of-mul-lt-mul-right D (omega arith) in
-        let kk : k ≡ a + (k - a) = omega arith in
-        let lz : lastOf xs + d ≡ (a + (k - a)) * D = lk ∙ ap (λ (v : ℕ). v * D) kk in
-        let lt : lastOf xs + d ≡ firstOf xs + (k - a) * ρ * d = lz ∙ lin (k - a) in
+    go : (a w : ℕ) → firstOf xs ≡ a * D → lastOf xs ≡ w * d → Spans d D ρ xs
+    go a w fa lw =
+        let f : firstOf xs ≡ a * ρ * d = fa ∙ rw dD (omega arith) in
+        let aw : a * ρ ≤ w = le-of-mul-le-mul-right {k = d} (omega arith) zd in
+        let x : suc w ≡ a * ρ + (suc w - a * ρ) = omega arith in
+        let e : suc w * d ≡ (a * ρ + (suc w - a * ρ)) * d = ap (λ (v : ℕ). v * d) x in
         record {
           A = a;
-          Z = k - a;
           A-pos = some a fa;
           first-is = fa;
-          last-is = lz;
-          ticks-are = ticks-between d (firstOf xs) (lastOf xs) ((k - a) * ρ) zd (mul-pos (omega arith) zρ) lt;
+          last-is = rw (ticks-between d (firstOf xs) (lastOf xs) (suc w - a * ρ) zd (omega arith) (omega arith)) (omega arith);
         }
-      where
-        lin : (z : ℕ) → (a + z) * D ≡ firstOf xs + z * ρ * d
-        lin z = rw (fa, dD) (omega arith)

@@ -1,13 +1,14 @@
-// A schedule of two hours through the proved code: 1 s for 1 h, 60 s for 24 h and 1 h for 30 days, two series, averages. Both series are recorded each second
-// from 01:00:00 on, the second of the minute and the number of the minute, and each hour is consolidated after its last second. One line a run says how many
-// values it wrote: two series of 60 minutes and of one hour. One line a tier and series says how many points a query over all time hands out, and the first
-// and the last of them, as seconds and tenths of a value.
+// A schedule of two hours through the proved code: 1 s for 2 h, 60 s for 24 h and 1 h for 30 days, two series, averages. Both series are recorded each second
+// from 01:00:00 on, the second of the minute and the number of the minute. Runs follow 01:59:59, an hour's last second; 02:30:29, in the middle of a minute and
+// of an hour; and 02:59:59. One line a run says how many values it wrote: two series of its minutes and hours, those of the mark's window again. After the
+// second run and after the third one line a tier and series says how many points a query over all time hands out, and the first and the last of them, as
+// seconds and tenths of a value: after the second the last minute and hour are those still open.
 ghost use Prim.Native.Nat.{_<_};
 
 // A store of three tiers, made in a lent image.
 fn fresh(image: &mut [u8]) -> model::Flags {
     let plan =
-        b"RSTO\x01\x00\x00\x00\x01\x00\x00\x00\x03\x00\x00\x00\x00\x00\x00\x00\x00\x00\x00\x00\x00\x00\x00\x00\x00\x00\x00\x00\x00\x00\x00\x00\x00\x00\x00\x00\x00\xca\x9a\x3b\x00\x00\x00\x00\x00\xa0\xb8\x30\x46\x03\x00\x00\x00\x00\x00\x00\x02\x00\x00\x00\x00\x00\x00\x00\x00\x00\x00\x00\x00\x00\x00\x00\x00\x00\x00\x00\x00\x00\x00\x00\x00\x00\x00\x00\x07\x00\x00\x00\x00\x00\x00\x00\x00\x00\x00\x00\x01\x00\x00\x00\x00\x58\x47\xf8\x0d\x00\x00\x00\x00\x00\x4f\x91\x94\x4e\x00\x00\x01\x00\x00\x00\x02\x00\x00\x00\x00\x00\x00\x00\x00\x00\x00\x00\x00\x00\x00\x00\x00\x00\x00\x00\x00\x00\x00\x00\x00\x00\x00\x00\x07\x00\x00\x00\x00\x00\x00\x00\x00\x00\x00\x00\x02\x00\x00\x00\x00\xa0\xb8\x30\x46\x03\x00\x00\x00\x00\x42\x07\x69\x35\x09\x00\x01\x00\x00\x00\x02\x00\x00\x00\x00\x00\x00\x00\x00\x00\x00\x00\x00\x00\x00\x00\x00\x00\x00\x00\x00\x00\x00\x00\x00\x00\x00\x00\x07\x00\x00\x00\x00\x00\x00\x00";
+        b"RSTO\x01\x00\x00\x00\x01\x00\x00\x00\x03\x00\x00\x00\x00\x00\x00\x00\x00\x00\x00\x00\x00\x00\x00\x00\x00\x00\x00\x00\x00\x00\x00\x00\x00\x00\x00\x00\x00\xca\x9a\x3b\x00\x00\x00\x00\x00\x40\x71\x61\x8c\x06\x00\x00\x00\x00\x00\x00\x02\x00\x00\x00\x00\x00\x00\x00\x00\x00\x00\x00\x00\x00\x00\x00\x00\x00\x00\x00\x00\x00\x00\x00\x00\x00\x00\x00\x07\x00\x00\x00\x00\x00\x00\x00\x00\x00\x00\x00\x01\x00\x00\x00\x00\x58\x47\xf8\x0d\x00\x00\x00\x00\x00\x4f\x91\x94\x4e\x00\x00\x01\x00\x00\x00\x02\x00\x00\x00\x00\x00\x00\x00\x00\x00\x00\x00\x00\x00\x00\x00\x00\x00\x00\x00\x00\x00\x00\x00\x00\x00\x00\x00\x07\x00\x00\x00\x00\x00\x00\x00\x00\x00\x00\x00\x02\x00\x00\x00\x00\xa0\xb8\x30\x46\x03\x00\x00\x00\x00\x42\x07\x69\x35\x09\x00\x01\x00\x00\x00\x02\x00\x00\x00\x00\x00\x00\x00\x00\x00\x00\x00\x00\x00\x00\x00\x00\x00\x00\x00\x00\x00\x00\x00\x00\x00\x00\x00\x07\x00\x00\x00\x00\x00\x00\x00";
     let flags = model::Flags {
         wrapped: [false; 32],
     };
@@ -50,16 +51,16 @@ fn sample(
     done.flags
 }
 
-// Records an hour, second by second.
-fn hour(image: &mut [u8], flags: model::Flags, number: u32) -> model::Flags
-    requires { ⌜ number < 2 ⌝ }
+// Records the seconds from one to another, counted from 01:00:00 on.
+fn seconds(image: &mut [u8], flags: model::Flags, from: u32, to: u32) -> model::Flags
+    requires { ⌜ to < 10000 ⌝ }
 {
     let mut after = flags;
-    let mut s: u32 = 0;
-    while s < 3600 {
+    let mut s = from;
+    while s < to {
         let second = pattern(s % 60);
-        let minute = pattern(60 * number + s / 60);
-        let stamp = (3600 + 3600 * number + s) as u64 * 1_000_000_000;
+        let minute = pattern(s / 60);
+        let stamp = (3600 + s) as u64 * 1_000_000_000;
         after = sample(image, after, 0, second, stamp);
         after = sample(image, after, 1, minute, stamp);
         s += 1;
@@ -180,17 +181,25 @@ fn show(image: &[u8], flags: model::Flags, tier: u32, column: u32) {
     io::write_all(1, b"\n");
 }
 
-fn main() {
-    let mut image = [0u8; 138680];
-    let made = fresh(&mut image);
-    let first = hour(&mut image, made, 0);
-    let second = run(&mut image, first);
-    let third = hour(&mut image, second, 1);
-    let flags = run(&mut image, third);
+// Writes a line on each tier and series.
+fn show_all(image: &[u8], flags: model::Flags) {
     let mut tier: u32 = 0;
     while tier < 3 {
-        show(&image, flags, tier, 0);
-        show(&image, flags, tier, 1);
+        show(image, flags, tier, 0);
+        show(image, flags, tier, 1);
         tier += 1;
     }
+}
+
+fn main() {
+    let mut image = [0u8; 225080];
+    let made = fresh(&mut image);
+    let first = seconds(&mut image, made, 0, 3600);
+    let hour = run(&mut image, first);
+    let second = seconds(&mut image, hour, 3600, 5430);
+    let middle = run(&mut image, second);
+    show_all(&image, middle);
+    let third = seconds(&mut image, middle, 5430, 7200);
+    let end = run(&mut image, third);
+    show_all(&image, end);
 }

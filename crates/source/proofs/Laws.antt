@@ -11,6 +11,7 @@ use Rattle.model.specs.declared.End.the-variants.{At, Missing}
 use Rattle.model.specs.declared.TierFn.the-variants.{None}
 use Rattle.model.specs.Words.{functionNo}
 use Rattle.model.specs.Ring.{Ring, stamp, oldest, newest}
+use Rattle.model.specs.Window.{windowOf}
 use Rattle.model.specs.Consolidate.{stampsBelow, orZero, startOf, endAfter}
 use Rattle.ring.specs.Parts.{Sized, ringOf}
 use Rattle.frame.specs.Pairs.{newest-low}
@@ -59,14 +60,14 @@ pub after-at : {e : End} (t : ℕ) → e ≡ At t → t + 1 ≡ endAfter e
 unfolding endAfter
 after-at t h = rw (h, add-one t)
 
-pub start-mark : (mark d : ℕ) (r : Ring) → (mark ≡ 0 → ⊥) → mark + d ≡ startOf mark d r
+pub start-mark : (mark long : ℕ) (r : Ring) {t : ℕ} → (mark ≡ 0 → ⊥) → t ≡ windowOf long mark → t ≡ startOf mark long r
 unfolding startOf
-start-mark zero d r h = absurd (h refl)
-start-mark (suc k) d r h = refl
+start-mark zero long r h e = absurd (h refl)
+start-mark (suc k) long r h e = e
 
-pub start-oldest : (mark d : ℕ) (r : Ring) {e : End} {t : ℕ} → mark ≡ 0 → e ≡ oldest r → t ≡ orZero e → t ≡ startOf mark d r
+pub start-oldest : (mark long : ℕ) (r : Ring) {e : End} {t : ℕ} → mark ≡ 0 → e ≡ oldest r → t ≡ orZero e → t ≡ startOf mark long r
 unfolding startOf
-start-oldest mark d r z e h = rw z (h ∙ ap orZero e)
+start-oldest mark long r z e h = rw z (h ∙ ap orZero e)
 
 -- of stamps that passed the test
 pub newest-is-low : {s : List ℕ} {n m : ℕ} → Sized s n m → (w : Bool) → stampsBelow s 0 n ≡ true → orZero (newest (ringOf s w)) < 2 ^ 63

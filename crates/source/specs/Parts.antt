@@ -17,6 +17,6 @@ readingOf s d w mark f long = record {
   wrapped = w;
   function = f;
   long = long;
-  start = startOf mark (d .interval) (ringOf s w);
+  start = startOf mark long (ringOf s w);
   end = endAfter (newest (ringOf s w));
 }

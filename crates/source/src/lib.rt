@@ -1,5 +1,5 @@
-// What is read of a pair's source: the destination's function by its number, the test of every stamp (10 CorruptedSlab), and the range, from where the last
-// run left off up to the newest stamp.
+// What is read of a pair's source: the destination's function by its number, the test of every stamp (10 CorruptedSlab), and the range, from the start
+// of the window that the last run ended in up to the newest stamp.
 ghost use mathlib.Core.Path.{_≡_};
 ghost use mathlib.Core.Bool.{true};
 ghost use Prim.Native.Nat.{_<_, _^_};
@@ -62,15 +62,14 @@ fn end_after(newest: model::End) -> u64
     t + 1
 }
 
-// Where the reading starts: at the oldest stamp without a mark, else one source interval after the mark.
-fn start_of(slab: &[u8], d: lent::Slab, wrapped: bool, mark: u64) -> u64
+// Where the reading starts: at the oldest stamp without a mark, else at the start of the window, `long` long, that holds the mark.
+fn start_of(slab: &[u8], d: lent::Slab, wrapped: bool, mark: u64, long: u64) -> u64
     requires { ⌜ Sound (now slab) (d .slots) (d .series) (d .interval) ⌝ }
-    requires { ⌜ (mark < 2 ^ 63) × (d .interval < 2 ^ 63) ⌝ }
-    ensures { λ r. ⌜ r ≡ startOf mark (d .interval) (ringOf (now (slab .entry)) wrapped) ⌝ }
+    requires { ⌜ 0 < long ⌝ }
+    ensures { λ r. ⌜ r ≡ startOf mark long (ringOf (now (slab .entry)) wrapped) ⌝ }
 {
-    let interval = d.interval;
     if mark != 0 {
-        return mark + interval;
+        return window::window_of(long, mark);
     }
     let oldest = ends::oldest(slab, d.slots, d.series, wrapped);
     or_zero(oldest)
@@ -86,12 +85,12 @@ pub fn reading_of(
     long: u64,
 ) -> window::Reading
     requires { ⌜ Sound (now slab) (d .slots) (d .series) (d .interval) ⌝ }
-    requires { ⌜ (mark < 2 ^ 63) × (d .interval < 2 ^ 63) × (stampsBelow (now slab) 0 (d .slots) ≡ true) ⌝ }
+    requires { ⌜ (0 < long) × (stampsBelow (now slab) 0 (d .slots) ≡ true) ⌝ }
     ensures { λ r. ⌜ (r ≡ readingOf (now (slab .entry)) d wrapped mark f long) × (r .end < 2 ^ 64) ⌝ }
 {
     let newest = ends::newest(slab, d.slots, d.series, wrapped);
     let end = end_after(newest);
-    let start = start_of(slab, d, wrapped, mark);
+    let start = start_of(slab, d, wrapped, mark, long);
     window::Reading {
         slots: d.slots,
         series: d.series,

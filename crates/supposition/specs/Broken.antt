@@ -11,15 +11,15 @@ use Rattle.demand.specs.Demand.{Situation, suited, supposed, history}
 use Rattle.model.specs.Cases.{tier, plan, num}
 use Rattle.demand.specs.Instance.{Instance-defs, both}
 
--- ---- plans that are not suited: one tier, five tiers, a ratio that is not whole, a ratio of 4,097, a tier that takes the least, slots that do not span the
--- coarsest interval; and one with the ratio 4,096
+-- ---- plans that are not suited: one tier, five tiers, a ratio that is not whole, a ratio of 4,097, a tier that takes the least, slots that do not span two
+-- coarsest intervals; and one with the ratio 4,096
 
 unfoldable pub unsuited : List Bool
 unsuited =
-    suited (tier 0 10 40 0 ∷ []) ∷ suited (tier 0 1 16 0 ∷ tier 1 2 16 1 ∷ tier 2 4 16 1 ∷ tier 3 8 16 1 ∷ tier 4 16 16 1 ∷ [])
-    ∷ suited (tier 0 10 50 0 ∷ tier 1 25 50 1 ∷ []) ∷ suited (tier 0 1 4097 0 ∷ tier 1 4097 4097 1 ∷ [])
-    ∷ suited (tier 0 10 40 0 ∷ tier 1 20 60 2 ∷ []) ∷ suited (tier 0 10 40 0 ∷ tier 1 20 40 1 ∷ tier 2 60 60 1 ∷ [])
-    ∷ suited (tier 0 1 4096 0 ∷ tier 1 4096 4096 1 ∷ []) ∷ []
+    suited (tier 0 10 40 0 ∷ []) ∷ suited (tier 0 1 32 0 ∷ tier 1 2 32 1 ∷ tier 2 4 32 1 ∷ tier 3 8 32 1 ∷ tier 4 16 32 1 ∷ [])
+    ∷ suited (tier 0 10 50 0 ∷ tier 1 25 50 1 ∷ []) ∷ suited (tier 0 1 8194 0 ∷ tier 1 4097 8194 1 ∷ [])
+    ∷ suited (tier 0 10 40 0 ∷ tier 1 20 60 2 ∷ []) ∷ suited (tier 0 10 120 0 ∷ tier 1 20 100 1 ∷ tier 2 60 120 1 ∷ [])
+    ∷ suited (tier 0 1 8192 0 ∷ tier 1 4096 8192 1 ∷ []) ∷ []
 
 pub unsuited-are : unsuited ≡ false ∷ false ∷ false ∷ false ∷ false ∷ false ∷ true ∷ []
 unfolding Instance-defs unsuited
@@ -27,7 +27,7 @@ unsuited-are = refl
 
 -- ---- lists that break the supposition
 
--- finest interval 10, coarsest D, one coarsest interval's slots
+-- finest interval 10, coarsest D. What the calls did is looked at, not the plan
 unfoldable pub isSupposedAt : ℕ → List Call → Bool
 isSupposedAt D cs =
     let s : Situation = record { plan = plan (tier 0 10 D 0 ∷ tier 1 D D 1 ∷ []); buf = replicate 500 9; flags = replicate 32 true; before = cs; between = []; column = 0; tier = 0 } in
@@ -36,26 +36,32 @@ isSupposedAt D cs =
 unfoldable pub isSupposed : List Call → Bool
 isSupposed cs = isSupposedAt 20 cs
 
--- a run follows each list. Good: one interval; two intervals; a run twice
+-- a run follows each list. Good: one interval; two intervals; a run twice; a run in the middle of an interval; runs as far apart as may be, after the first
+-- tick of an interval and the last of the next; a run after each tick
 unfoldable pub good : List Bool
 good =
     isSupposed (both 20 (num 1) (num 2) ∷ both 30 (num 1) (num 2) ∷ [])
     ∷ isSupposed (both 20 (num 1) (num 2) ∷ both 30 (num 1) (num 2) ∷ consolidateCall ∷ both 40 (num 1) (num 2) ∷ both 50 (num 1) (num 2) ∷ [])
-    ∷ isSupposed (recordCall 0 1 (num 1) 20 ∷ recordCall 0 1 (num 1) 30 ∷ consolidateCall ∷ []) ∷ []
+    ∷ isSupposed (recordCall 0 1 (num 1) 20 ∷ recordCall 0 1 (num 1) 30 ∷ consolidateCall ∷ [])
+    ∷ isSupposed (both 20 (num 1) (num 2) ∷ consolidateCall ∷ both 30 (num 1) (num 2) ∷ [])
+    ∷ isSupposed (recordCall 0 1 (num 1) 20 ∷ consolidateCall ∷ recordCall 0 1 (num 1) 30 ∷ recordCall 0 1 (num 1) 40 ∷ recordCall 0 1 (num 1) 50 ∷ [])
+    ∷ isSupposed (recordCall 0 1 (num 1) 20 ∷ consolidateCall ∷ recordCall 0 1 (num 1) 30 ∷ consolidateCall ∷ recordCall 0 1 (num 1) 40 ∷ []) ∷ []
 
-pub good-are : good ≡ true ∷ true ∷ true ∷ []
+pub good-are : good ≡ true ∷ true ∷ true ∷ true ∷ true ∷ true ∷ []
 unfolding Instance-defs isSupposedAt isSupposed good
 good-are = refl
 
--- the runs: none after the first interval; one too early; one before a last sample; no sample at all
+-- the runs: none in the first interval; none in the second, after one in the middle of the first and after one behind its last tick; one before a tick's last
+-- sample; one before the first sample; no sample at all
 unfoldable pub offSchedule : List Bool
 offSchedule =
     isSupposed (both 20 (num 1) (num 2) ∷ both 30 (num 1) (num 2) ∷ both 40 (num 1) (num 2) ∷ both 50 (num 1) (num 2) ∷ [])
-    ∷ isSupposed (both 20 (num 1) (num 2) ∷ consolidateCall ∷ both 30 (num 1) (num 2) ∷ [])
+    ∷ isSupposed (recordCall 0 1 (num 1) 20 ∷ consolidateCall ∷ recordCall 0 1 (num 1) 30 ∷ recordCall 0 1 (num 1) 40 ∷ recordCall 0 1 (num 1) 50 ∷ recordCall 0 1 (num 1) 60 ∷ [])
+    ∷ isSupposed (recordCall 0 1 (num 1) 20 ∷ recordCall 0 1 (num 1) 30 ∷ consolidateCall ∷ recordCall 0 1 (num 1) 40 ∷ recordCall 0 1 (num 1) 50 ∷ recordCall 0 1 (num 1) 60 ∷ [])
     ∷ isSupposed (both 20 (num 1) (num 2) ∷ recordCall 0 0 (num 2) 30 ∷ consolidateCall ∷ recordCall 0 1 (num 2) 30 ∷ [])
-    ∷ isSupposed [] ∷ []
+    ∷ isSupposed (consolidateCall ∷ recordCall 0 1 (num 1) 20 ∷ []) ∷ isSupposed [] ∷ []
 
-pub off-schedule : offSchedule ≡ false ∷ false ∷ false ∷ false ∷ []
+pub off-schedule : offSchedule ≡ false ∷ false ∷ false ∷ false ∷ false ∷ false ∷ []
 unfolding Instance-defs isSupposedAt isSupposed offSchedule
 off-schedule = refl
 

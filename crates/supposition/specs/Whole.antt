@@ -17,7 +17,7 @@ supposed-is s =
     let g : Sample → Bool = λ x. eqb (x .stamp % d) 0 in
     let h : Sample → Bool = λ x. gapless (x .column) d (firstOf xs) (ticks d xs) xs in
     rw (all-three f g h xs)
-    (nest (ltb 0 (firstOf xs)) (eqb (firstOf xs % coarsest s) 0) (ascending 0 xs) (all f xs) (all g xs) (all h xs) (scheduled d (coarsest s) 0 false (history s)))
+    (nest (ltb 0 (firstOf xs)) (eqb (firstOf xs % coarsest s) 0) (ascending 0 xs) (all f xs) (all g xs) (all h xs) (scheduled (coarsest s) 0 0 (history s)))
   where
     nest : (a b c x y z e : Bool) → a && b && c && (x && y && z) && e ≡ a && (b && (c && (x && (y && (z && (e && true))))))
     nest false b c x y z e = refl

@@ -106,7 +106,7 @@ fn make(path: &[u8], buf: &mut [u8]) {
     step(
         commands::CREATE,
         b"create",
-        b" series 2 tier 1s 1h tier 60s 24h average tier 1h 30d average",
+        b" series 2 tier 1s 2h tier 60s 24h average tier 1h 30d average",
         path,
         buf,
     );

@@ -1,4 +1,4 @@
-// The worked examples H, J and K of document 01, run through the proved code: 10 into 30, two series, averages. Each line is what a run answered, the mark
+// The worked examples H, J and K of document 01, J as request 2026-01 has it, run through the proved code: 10 into 30, two series, averages. Each line is what a run answered, the mark
 // that it left, and the stamp and the value's pattern of one slot of the coarser tier.
 ghost use mathlib.Core.Path.{_≡_};
 ghost use Prim.Native.Nat.{_<_};
@@ -109,7 +109,7 @@ fn next_window(image: &mut [u8], flags: model::Flags) -> model::Flags
     b
 }
 
-// Then 7 and 9 at 70 and 80: the window at 60 holds 8.
+// Then 7 and 9 at 70 and 80: the window at 60 holds 7, the mean of all three (in document 01 alone 8, that of the last two).
 fn window_again(image: &mut [u8], flags: model::Flags)
     requires { ⌜ 592 ≡ length (now image) ⌝ }
 {

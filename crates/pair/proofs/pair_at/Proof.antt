@@ -4,7 +4,7 @@ use native.Mathlib.Numerals.{add-one}
 use mathlib.Core.Path.{_∙_}
 use Rattle.model.specs.Bytes.{part}
 use Rattle.model.specs.Image.{rowPlace}
-use Rattle.pair.proofs.Rows.{row-inside, mark-low, interval-low, slab-part, stamps-part, pair-at}
+use Rattle.pair.proofs.Rows.{row-inside, slab-part, stamps-part, pair-at}
 use borrow.Author.Needs.{needs}
 use Rattle.pair.proofs.pair_at.Statement.{statement}
 use Rattle.pair.proofs.pair_at.Tie as tie
@@ -36,11 +36,21 @@ part-reading-of-end c = search needs
 
 reading-of-requires : tie.Need-reading-of-requires
 unfolding part
-reading-of-requires c κs = let a = c .before .before .before .before .before .before .args in let d = c .before .before .before .before .slab-at .ensures in (rw (slab-part d) (d .sound), (rw (c .before .before .row-at .ensures) (mark-low (a .image .now) (a .row) (c .before .before .before .before .before .before .pre .0)), rw (d .interval-is) (interval-low (a .image .now) (a .row) (c .before .before .before .before .before .before .pre .0)), stamps-part d ∙ c .before .before .before .before .before .before .pre .1))
+reading-of-requires c κs =
+    let called = c .before .before .before .before .before .before in
+    let d = c .before .before .before .before .slab-at .ensures in
+    (rw (slab-part d) (d .sound), (c .before .before .before .slab-at2 .ensures .some-interval, stamps-part d ∙ called .pre .1))
 
 returns : tie.Need-returns
 unfolding part
-returns c = let a = c .before .before .before .before .before .before .before .args in pair-at (a .image .now) (a .row) (c .before .before .before .before .before .before .before .pre .0) (a .flags) (a .f) (c .before .before .before .before .before .slab-at .ensures) (rw (add-one (a .row)) at (c .before .before .before .before .slab-at2 .ensures)) (c .before .before .flag .ensures) (rw (c .before .before .before .row-at .ensures) at (c .reading-of .ensures .0)) (c .reading-of .ensures .1)
+returns c =
+    let called = c .before .before .before .before .before .before .before in
+    let a = called .args in
+    let d = c .before .before .before .before .before .slab-at .ensures in
+    let next = c .before .before .before .before .slab-at2 .ensures in
+    let r = c .before .before .before .row-at .ensures in
+    pair-at (a .image .now) (a .row) (called .pre .0) (a .flags) (a .f) d (rw (add-one (a .row)) at next) (c .before .before .flag .ensures)
+    (rw r at (c .reading-of .ensures .0)) (c .reading-of .ensures .1)
 
 pub pair-at-spec : {M : Type 1} → statement M
 pair-at-spec =

@@ -9,10 +9,10 @@ newest-requires : tie.Need-newest-requires
 newest-requires c κs = sized (c .before .pre .0)
 
 end-after-requires : tie.Need-end-after-requires
-end-after-requires c κs = rw (c .newest .ensures) (newest-is-low (sized (c .before .before .pre .0)) (c .before .before .args .wrapped) (c .before .before .pre .1 .2))
+end-after-requires c κs = rw (c .newest .ensures) (newest-is-low (sized (c .before .before .pre .0)) (c .before .before .args .wrapped) (c .before .before .pre .1 .1))
 
 start-of-requires : tie.Need-start-of-requires
-start-of-requires c κs = (c .before .before .before .pre .0, (c .before .before .before .pre .1 .0, c .before .before .before .pre .1 .1))
+start-of-requires c κs = (c .before .before .before .pre .0, c .before .before .before .pre .1 .0)
 
 returns : tie.Need-returns
 unfolding readingOf

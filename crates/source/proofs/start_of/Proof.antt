@@ -5,11 +5,11 @@ use borrow.Author.Needs.{needs}
 use Rattle.source.proofs.start_of.Statement.{statement}
 use Rattle.source.proofs.start_of.Tie as tie
 
-add-result : tie.Need-add-result
-add-result c = search needs
+window-of-requires : tie.Need-window-of-requires
+window-of-requires c κs = search needs
 
 returns : tie.Need-returns
-returns c = let a = c .before .before .args in start-mark (a .mark) (a .d .interval) (ringOf (a .slab .now) (a .wrapped)) (c .if1 .taken)
+returns c = let a = c .before .before .before .args in start-mark (a .mark) (a .long) (ringOf (a .slab .now) (a .wrapped)) (c .before .if1 .taken) (c .window-of .ensures .0)
 
 oldest-requires : tie.Need-oldest-requires
 oldest-requires c κs = sized (c .before .before .pre .0)
@@ -18,7 +18,7 @@ or-zero-requires : tie.Need-or-zero-requires
 or-zero-requires c κs = search needs
 
 returns-2 : tie.Need-returns-2
-returns-2 c = let a = c .before .before .before .before .args in start-oldest (a .mark) (a .d .interval) (ringOf (a .slab .now) (a .wrapped)) (c .before .before .if1 .left) (c .before .oldest .ensures) (c .or-zero .ensures)
+returns-2 c = let a = c .before .before .before .before .args in start-oldest (a .mark) (a .long) (ringOf (a .slab .now) (a .wrapped)) (c .before .before .if1 .left) (c .before .oldest .ensures) (c .or-zero .ensures)
 
 pub start-of-spec : {M : Type 1} → statement M
-start-of-spec = tie.close (tie.spec add-result returns oldest-requires or-zero-requires returns-2)
+start-of-spec = tie.close (tie.spec window-of-requires returns oldest-requires or-zero-requires returns-2)
