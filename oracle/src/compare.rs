@@ -51,6 +51,11 @@ pub struct Tally {
     pub by_hash_order: u64,
     /// Refused runs that lost a finished pair's mark in the Rust.
     pub marks_lost: u64,
+    /// Queries held against the third demand.
+    pub demanded: u64,
+    /// Schedules that do not meet its supposition, and those of them after which a query is unlike it.
+    pub outside: u64,
+    pub broken: u64,
 }
 
 impl Tally {
@@ -67,6 +72,9 @@ impl Tally {
         self.not_asked += t.not_asked;
         self.by_hash_order += t.by_hash_order;
         self.marks_lost += t.marks_lost;
+        self.demanded += t.demanded;
+        self.outside += t.outside;
+        self.broken += t.broken;
         self.refusals.iter_mut().zip(t.refusals).for_each(|(a, b)| *a += b);
     }
 }

@@ -1,15 +1,15 @@
 //! Libraries with one fault each, set beside the plain reading as a third side would be:
 //! the driver must tell them apart. The faults are those that document 01 wants caught,
-//! and its traps.
+//! its traps, and other starts of a reading than that of request 2026-01.
 
 use crate::calls::{Answer, Side};
 use crate::compare::{Tally, run, shrink};
 use crate::generate::{self, Random};
-use crate::plain::{self, FRESH, Flags, HEADER, ROW};
+use crate::plain::{self, FRESH, Flags, HEADER, ROW, Window};
 use crate::sides::{Lent, Library, Plain};
 
 #[derive(Clone, Copy, Debug, PartialEq)]
-enum Fault {
+pub enum Fault {
     None_,
     RefusesEachPlan,
     RecordStoresNothing,
@@ -25,10 +25,52 @@ enum Fault {
     RefusedBatchStores,
     MarkMovesOnRefusal,
     TailIsRead,
+    DividesEachValue,
+    // Where a reading starts with a nonzero mark.
+    StartsAfterTheMark,
+    StartsAtTheMark,
+    StartsAfterTheMarksWindow,
+    StartsAtTheOldest,
 }
 use Fault::*;
 
-struct Faulty(Fault);
+pub struct Faulty(pub Fault);
+
+impl Fault {
+    fn start(self) -> plain::Start {
+        match self {
+            StartsAfterTheMark => |source, dest, oldest| match source.mark {
+                0 => plain::start_of(source, dest, oldest),
+                mark => mark + source.interval,
+            },
+            StartsAtTheMark => |source, dest, oldest| match source.mark {
+                0 => plain::start_of(source, dest, oldest),
+                mark => mark,
+            },
+            StartsAfterTheMarksWindow => |source, dest, oldest| match source.mark {
+                0 => plain::start_of(source, dest, oldest),
+                _ => plain::start_of(source, dest, oldest) + dest.interval,
+            },
+            StartsAtTheOldest => |_, _, oldest| oldest.unwrap_or(0),
+            _ => plain::start_of,
+        }
+    }
+
+    fn apply(self) -> plain::Apply {
+        match self {
+            DividesEachValue => |function, values| match plain::apply(function, values) {
+                Window::Number(_) if function == 1 => {
+                    let finite =
+                        values.iter().map(|&v| f64::from_bits(v)).filter(|v| v.is_finite());
+                    let count = finite.clone().count() as f64;
+                    Window::Number(finite.fold(-0.0, |sum, v| sum + v / count))
+                }
+                other => other,
+            },
+            _ => plain::apply,
+        }
+    }
+}
 
 /// A sound image's rows.
 fn rows(image: &[u8]) -> Vec<plain::Row> {
@@ -113,7 +155,8 @@ impl Library for Faulty {
 
     fn consolidate(&self, image: &mut [u8], flags: &mut Flags) -> Answer {
         let before = image.to_vec();
-        let answer = Plain.consolidate(image, flags);
+        let answer = plain::consolidate_by(image, flags, (self.0.start(), self.0.apply()))
+            .map_or_else(Answer::Refused, Answer::Count);
         for (i, row) in rows(image).into_iter().enumerate() {
             let (n, m) = (row.slots() as usize, row.series as usize);
             let stamps = row.offset as usize + 64 + 4 * m;
@@ -187,6 +230,11 @@ fn each_fault_is_caught_and_no_other() {
         (RefusedBatchStores, 1),
         (MarkMovesOnRefusal, 2),
         (TailIsRead, 1),
+        (DividesEachValue, 6),
+        (StartsAfterTheMark, 3),
+        (StartsAtTheMark, 4),
+        (StartsAfterTheMarksWindow, 3),
+        (StartsAtTheOldest, 4),
     ] {
         let calls = caught(fault).unwrap_or_else(|| panic!("{fault:?} was not caught"));
         println!("{fault:?}: {calls} calls");

@@ -1,7 +1,8 @@
-//! Runs the plain reading of document 01 beside the published Rust. See ../README.md.
+//! Runs the plain reading of document 01 beside the Rust and the proved library. See ../README.md.
 
 mod calls;
 mod compare;
+mod demand;
 mod edge;
 #[cfg(test)]
 mod faults;
@@ -218,9 +219,11 @@ fn parts(s: &mut Session, seed: u64, lists: u64, length: u64) {
     s.part("large", special::large);
     s.part("third demand", |s| {
         for i in 0..lists / 20 {
-            special::third_demand(s, &mut random(i));
+            demand::third_demand(s, &mut random(i));
         }
+        demand::third_demand_large(s);
     });
+    s.part("schedules", demand::schedules);
     s.alone("openings", special::openings);
     s.alone("hash order", special::hash_order);
     s.alone("departures", special::departures);
@@ -259,6 +262,10 @@ fn main() {
     let found: u64 = done.iter().map(|d| d.1).sum();
     println!("refusals 1 to 16: {:?}", &t.refusals[1..]);
     println!("{} points handed out, {} calls not asked of a side", t.points, t.not_asked);
+    println!(
+        "third demand: {} queries checked; of {} schedules outside its supposition {} break it",
+        t.demanded, t.outside, t.broken
+    );
     println!(
         "the Rust went another way by hash order {} times, lost marks {} times",
         t.by_hash_order, t.marks_lost

@@ -1,5 +1,6 @@
-//! A second reading of document 01, in plain Rust: written from the document alone,
-//! so that it can stand beside rondo and beside the proved library. Clear before fast.
+//! A second reading of document 01, with request 2026-01 of document 02 in the place of the
+//! sentence that it alters, in plain Rust: written from the documents alone, so that it can
+//! stand beside rondo and beside the proved library. Clear before fast.
 //!
 //! A refusal is its number in document 01's table. The image is a byte slice, the flags a
 //! record of 32 wrap flags beside it. No call looks past the image or past flag R - 1.
@@ -575,13 +576,31 @@ pub fn apply(function: u32, values: &[u64]) -> Window {
     })
 }
 
+/// Where a pair's reading starts: its two rows and the oldest source stamp decide.
+pub type Start = fn(&Row, &Row, Option<u64>) -> u64;
+pub type Apply = fn(u32, &[u64]) -> Window;
+
+/// The oldest source stamp (0 without one) if the mark is 0, else, by request 2026-01, the start
+/// of the destination window that holds the mark. Document 01 had mark + source interval.
+pub fn start_of(source: &Row, dest: &Row, oldest: Option<u64>) -> u64 {
+    match source.mark {
+        0 => oldest.unwrap_or(0),
+        mark => mark / dest.interval * dest.interval,
+    }
+}
+
 /// The number of writes, or the refusal that ended the call.
 pub fn consolidate(image: &mut [u8], flags: &mut Flags) -> Result<u64, u32> {
+    consolidate_by(image, flags, (start_of, apply))
+}
+
+/// The same by any start and window's answer: others than these two are faults, for the tests.
+pub fn consolidate_by(image: &mut [u8], flags: &mut Flags, by: (Start, Apply)) -> Result<u64, u32> {
     let c = check(image)?;
     let mut writes = 0;
     for schema in 0..c.schemas {
         for pair in c.tiers(schema).windows(2) {
-            writes += consolidate_pair(image, flags, &c, pair[0], pair[1])?;
+            writes += consolidate_pair(image, flags, &c, (pair[0], pair[1]), by)?;
         }
     }
     Ok(writes)
@@ -591,8 +610,8 @@ fn consolidate_pair(
     image: &mut [u8],
     flags: &mut Flags,
     c: &Contents,
-    from: usize,
-    to: usize,
+    (from, to): (usize, usize),
+    (start, apply): (Start, Apply),
 ) -> Result<u64, u32> {
     let (source, dest) = (c.rows[from], c.rows[to]);
     if dest.function == 0 {
@@ -602,10 +621,7 @@ fn consolidate_pair(
     if (0..slots(&slab)).any(|slot| stamp(&slab, slot) >= TOP) {
         return Err(CORRUPTED_SLAB);
     }
-    let start = match source.mark {
-        0 => oldest(&slab, flags[from]).unwrap_or(0),
-        mark => mark + source.interval,
-    };
+    let start = start(&source, &dest, oldest(&slab, flags[from]));
     let Some(newest) = newest(&slab) else {
         return Ok(0);
     };

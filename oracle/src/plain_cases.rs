@@ -1,4 +1,4 @@
-//! Document 01's marked cases A to L, and the order of its refusals.
+//! Document 01's marked cases A to L, the rows of request 2026-01, and the order of the refusals.
 
 use super::*;
 use crate::calls::{Plan, Schema, Tier, entry_bytes};
@@ -124,20 +124,88 @@ fn i_tier_before_range() {
     assert_eq!(query(&image, &flags, 0, 0, 2, (5, 5)).err(), Some(INVALID_TIME_RANGE));
 }
 
-#[test]
-fn j_means_and_a_window_met_twice() {
+/// Case J with this start: what its three runs write, and what tier 1 then holds.
+fn case_j(start: Start) -> ([Result<u64, u32>; 3], Vec<(u64, f64)>) {
     let mut s = made(&plan_of(&[(10, 20, 0), (30, 20, 1)]));
     for (stamp, value) in [(30, 1.0), (40, 2.0), (50, 6.0)] {
         put(&mut s, stamp, value);
     }
-    assert_eq!(consolidate(&mut s.0, &mut s.1), Ok(1));
+    let first = consolidate_by(&mut s.0, &mut s.1, (start, apply));
     assert_eq!(read(&s, 1, ALL), [(30, 3.0)]);
     put(&mut s, 60, 5.0);
-    assert_eq!(consolidate(&mut s.0, &mut s.1), Ok(1));
+    let middle = consolidate_by(&mut s.0, &mut s.1, (start, apply));
+    assert_eq!(read(&s, 1, ALL), [(30, 3.0), (60, 5.0)]);
     put(&mut s, 70, 7.0);
     put(&mut s, 80, 9.0);
+    let last = consolidate_by(&mut s.0, &mut s.1, (start, apply));
+    ([first, middle, last], read(&s, 1, ALL))
+}
+
+/// Document 01's start with a nonzero mark, before request 2026-01.
+fn after_the_mark(source: &Row, _: &Row, oldest: Option<u64>) -> u64 {
+    if source.mark == 0 { oldest.unwrap_or(0) } else { source.mark + source.interval }
+}
+
+#[test]
+fn j_means_and_a_window_met_twice() {
+    // Document 01: the minute shows the samples since the last run, 8.
+    assert_eq!(case_j(after_the_mark), ([Ok(1), Ok(1), Ok(1)], vec![(30, 3.0), (60, 8.0)]));
+    // Request 2026-01: all of its samples, 7. The middle run reads from 30 on and writes 2.
+    assert_eq!(case_j(start_of), ([Ok(1), Ok(2), Ok(1)], vec![(30, 3.0), (60, 7.0)]));
+}
+
+/// Request 2026-01: a window is averaged over those of its samples that are still in the ring.
+#[test]
+fn first_samples_that_have_left_the_ring() {
+    let mut s = made(&plan_of(&[(1, 3, 0), (4, 3, 1)]));
+    put(&mut s, 4, 1.0);
+    put(&mut s, 5, 2.0);
     assert_eq!(consolidate(&mut s.0, &mut s.1), Ok(1));
-    assert_eq!(read(&s, 1, ALL), [(30, 3.0), (60, 8.0)]);
+    assert_eq!(read(&s, 1, ALL), [(4, 1.5)]);
+    put(&mut s, 6, 4.0);
+    put(&mut s, 7, 9.0);
+    assert_eq!(consolidate(&mut s.0, &mut s.1), Ok(1));
+    assert_eq!(read(&s, 1, ALL), [(4, 5.0)]);
+}
+
+/// Request 2026-01: with a nonzero mark below the destination interval the reading starts at 0.
+#[test]
+fn a_mark_in_window_0() {
+    let mark = HEADER + 48;
+    for below in [1, 10, 29] {
+        let mut s = made(&plan_of(&[(10, 20, 0), (30, 20, 1)]));
+        put64(&mut s.0, mark, below);
+        // The mean of both, though the mark's next tick is past the first for 29.
+        put(&mut s, 30, 1.0);
+        put(&mut s, 40, 2.0);
+        assert_eq!(consolidate(&mut s.0, &mut s.1), Ok(1));
+        assert_eq!((read(&s, 1, ALL), get64(&s.0, mark)), (vec![(30, 1.5)], 40));
+        // What stands in window 0, be it stamped 0, is read and refused.
+        for stamp in [0, 1, 20] {
+            let mut s = made(&plan_of(&[(10, 20, 0), (30, 20, 1)]));
+            put64(&mut s.0, mark, below);
+            put(&mut s, 10, 1.0);
+            put(&mut s, 40, 2.0);
+            let slab = check(&s.0).unwrap().rows[0].offset as usize;
+            put64(&mut s.0, slab + 72 + 8, stamp);
+            assert_eq!(consolidate(&mut s.0, &mut s.1), Err(INVALID_TIMESTAMP));
+            assert_eq!((read(&s, 1, ALL), get64(&s.0, mark)), (vec![], below));
+        }
+    }
+}
+
+/// Request 2026-01: the start itself, at a window's edges.
+#[test]
+fn start_of_a_reading() {
+    let mut row = check(&made(&plan_of(&[(10, 20, 0), (30, 20, 1)])).0).unwrap().rows;
+    let mut start = |mark: u64, oldest: Option<u64>| {
+        row[0].mark = mark;
+        start_of(&row[0], &row[1], oldest)
+    };
+    assert_eq!((start(0, None), start(0, Some(40))), (0, 40));
+    assert_eq!((start(1, Some(40)), start(29, Some(40)), start(30, Some(40))), (0, 0, 30));
+    assert_eq!((start(59, None), start(60, Some(9))), (30, 60));
+    assert_eq!(start(TOP - 1, None), (TOP - 1) / 30 * 30);
 }
 
 #[test]

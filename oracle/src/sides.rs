@@ -7,13 +7,13 @@ use crate::calls::{Answer, Call, Cell, Kind, Plan, Side, State, entry_bytes};
 use crate::edge::Edge;
 use crate::plain::{self, Flags, HEADER, ROW};
 
-/// The Rust as published.
+/// The Rust as published but for the line of request 2026-01.
 pub mod published {
     use rondo as rust;
     include!("rust_side.rs");
 }
 
-/// The Rust with an ordered map: where hash order decides, this outcome is document 01's.
+/// The same with an ordered map: where hash order decides, this outcome is document 01's.
 pub mod ordered {
     use rondo_ordered as rust;
     include!("rust_side.rs");

@@ -3,6 +3,7 @@
 
 use crate::calls::{Answer, Call, Cell, Kind, Plan, Schema, Side, Tier, entry_bytes};
 use crate::compare::{Asked, List, asked};
+use crate::demand::{self, Schedule};
 use crate::generate::{self, INFINITY, Random};
 use crate::plain::{Flags, HEADER, ROW, get64, put64};
 use crate::sides::{Lent, Plain, ordered, published};
@@ -270,30 +271,13 @@ fn functions(r: &mut Random) -> Vec<List> {
     (1..=6).map(list).collect()
 }
 
-/// The third demand's schedule: no tick left out, a run after each coarsest interval, then queries.
-fn schedule(r: &mut Random, intervals: &[u64]) -> List {
-    let coarse = intervals[intervals.len() - 1];
-    let tiers: Vec<(u64, u64, u32)> = (intervals.iter().enumerate())
-        .map(|(k, &i)| (i, coarse / i + r.below(3), (k > 0) as u32))
-        .collect();
-    let plan = one(2, &tiers);
-    let mut calls = Vec::new();
-    for i in 0..3 * coarse / intervals[0] {
-        let stamp = 2 * coarse + i * intervals[0];
-        let mut offset = || (r.below((1 << 31) + 1) as i64 - (1 << 30)) as f64;
-        let entries = vec![(0, 0, offset().to_bits()), (0, 1, offset().to_bits())];
-        calls.push(Call::Batch { entries, tail: 0, stamp });
-        if i % 5 == 4 {
-            calls.push(crate::record(0, 0, 1.0));
-        }
-        if (stamp + intervals[0]) % coarse == 0 {
-            calls.push(Call::Consolidate);
-            calls.extend((0..intervals.len() as u32).flat_map(|t| [query(0, t), query(1, t)]));
-            let (start, end) = (stamp - coarse, stamp);
-            calls.push(Call::Auto { schema: 0, column: 1, start, end });
-        }
-    }
-    List::new(plan, calls)
+/// The third demand: no tick left out, runs on this schedule, queries after each.
+fn scheduled(r: &mut Random, schedule: Schedule, intervals: &[u64], ticks: u64) -> List {
+    let plan = demand::plan(r, intervals);
+    let list = demand::list(r, plan, schedule, ticks);
+    assert!(demand::supposed(&list.plan, &demand::events(&list.plan, &list.calls)));
+    assert!(demand::check(Plain, &list.plan, &list.calls).is_ok());
+    list
 }
 
 /// A few of the short lists over small stocks.
@@ -318,6 +302,7 @@ fn short(r: &mut Random) -> Vec<List> {
 
 /// Writes `stdin` and `stdout` of the program into a folder.
 pub fn write(folder: &str, seed: u64) {
+    use Schedule::*;
     let mut w = Writer {
         bytes: Vec::new(),
         printed: String::new(),
@@ -334,13 +319,36 @@ pub fn write(folder: &str, seed: u64) {
     let random = |i: u64| Random(seed.wrapping_mul(1 << 40).wrapping_add(i));
     let second = 1_000_000_000;
     let groups: Vec<(&str, Vec<List>)> = vec![
-        ("cases A to L", special::case_lists()),
+        ("cases A to L and those of 2026-01", special::case_lists()),
         ("plans", (0..400).map(|i| generate::odd_plan(&mut random(i))).collect()),
         ("short lists", short(&mut r)),
         ("openings", openings()),
         ("functions", functions(&mut r)),
-        ("third demand, three tiers", vec![schedule(&mut r, &[second, 5 * second, 60 * second])]),
-        ("third demand, four tiers", vec![schedule(&mut r, &[10, 20, 60, 480])]),
+        (
+            "third demand, a run after each tick",
+            vec![
+                scheduled(&mut r, EachTick, &[1, 2], 9),
+                scheduled(&mut r, EachTick, &[second, 3 * second, 6 * second], 27),
+            ],
+        ),
+        (
+            "third demand, after some ticks",
+            vec![
+                scheduled(&mut r, SomeTicks, &[second, 5 * second, 20 * second], 70),
+                scheduled(&mut r, SomeTicks, &[10, 20, 60, 240], 80),
+            ],
+        ),
+        (
+            "third demand, early and late",
+            vec![
+                scheduled(&mut r, EarlyAndLate, &[second, 5 * second, 60 * second], 240),
+                scheduled(&mut r, EarlyAndLate, &[10, 20, 60, 240], 130),
+            ],
+        ),
+        (
+            "third demand, after each last tick",
+            vec![scheduled(&mut r, LastTicks, &[second, 5 * second, 60 * second], 180)],
+        ),
         (
             "one to three schemas",
             (0..40).map(|i| generate::list(&mut random(i), 40, false)).collect(),
