@@ -1,5 +1,5 @@
 /*
- * A store of seconds, minutes and hours for two series: two hours recorded, consolidated, queried.
+ * A store of seconds, minutes and hours for two series: three hours recorded, consolidated, queried.
  * tour.rs does the same in Rust and prints the same.
  */
 #include <inttypes.h>
@@ -48,7 +48,7 @@ static void show_sixteen(const uint8_t *image, struct rondo_answer *answer) {
 int main(void) {
     uint8_t plan[RONDO_PLAN_SIZE(3)];
     rondo_put_plan(plan, 1, 3);
-    rondo_put_row(plan, 0, 0, 0, SECOND, 3600 * SECOND, RONDO_NONE, 2, 7);
+    rondo_put_row(plan, 0, 0, 0, SECOND, 7200 * SECOND, RONDO_NONE, 2, 7);
     rondo_put_row(plan, 1, 0, 1, 60 * SECOND, 86400 * SECOND, RONDO_AVERAGE, 2, 7);
     rondo_put_row(plan, 2, 0, 2, 3600 * SECOND, 2592000 * SECOND, RONDO_AVERAGE, 2, 7);
 
@@ -60,12 +60,13 @@ int main(void) {
     check("create", rondo_create(plan, sizeof plan, image, size, &flags));
     printf("image of %" PRIu64 " bytes\n", size);
 
-    for (uint64_t s = 3600; s < 3 * 3600; s++) {
+    /* a run after each hour's last second, and one in the middle of a minute and an hour */
+    for (uint64_t s = 3600; s < 4 * 3600; s++) {
         uint8_t both[2 * RONDO_ENTRY_SIZE];
         rondo_put_entry(both, 0, 0, rondo_bits((double)(s % 60)));
         rondo_put_entry(both + RONDO_ENTRY_SIZE, 0, 1, rondo_bits((double)s));
         check("batch", rondo_record_batch(image, size, &flags, both, sizeof both, s * SECOND));
-        if (s % 3600 == 3599) {
+        if (s % 3600 == 3599 || s == 9029) {
             check("consolidate", rondo_consolidate(image, size, &flags, &count));
             printf("second %" PRIu64 ": %" PRIu64 " values written\n", s, count);
         }

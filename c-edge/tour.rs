@@ -1,4 +1,4 @@
-//! A store of seconds, minutes and hours for two series: two hours recorded, consolidated, queried.
+//! A store of seconds, minutes and hours for two series: three hours recorded, consolidated, queried.
 //! tour.c does the same in C and prints the same. The standard library alone.
 
 /// The calls of libedge.a, as include/rondo.h has them.
@@ -189,11 +189,12 @@ fn show_sixteen(store: &Store, mut answer: Answer) {
 }
 
 fn main() -> Result<(), u32> {
-    let mut store = Store::create(&plan(&[(1, 3600, 0), (60, 86_400, 1), (3600, 2_592_000, 1)]))?;
+    let mut store = Store::create(&plan(&[(1, 7200, 0), (60, 86_400, 1), (3600, 2_592_000, 1)]))?;
     println!("image of {} bytes", store.image.len());
-    for s in 3600..3 * 3600 {
+    // a run after each hour's last second, and one in the middle of a minute and an hour
+    for s in 3600..4 * 3600 {
         store.batch(&[(s % 60) as f64, s as f64], s * SECOND)?;
-        if s % 3600 == 3599 {
+        if s % 3600 == 3599 || s == 9029 {
             println!("second {s}: {} values written", store.consolidate()?);
         }
     }

@@ -1,5 +1,5 @@
-//! One driver for both sides: the proved library through libedge.a, and the published Rust. Times are the thread's
-//! processor time, so that a busy machine tells less.
+//! One driver for both sides: the proved library through libedge.a, and the published Rust with request 2026-01's line
+//! altered. Times are the thread's processor time, so that a busy machine tells less.
 //!
 //!   bench                         every measure, a Markdown row each: median, least and greatest of the repetitions, ratio
 //!   bench --only NAME             one measure
@@ -16,15 +16,15 @@ use std::hint::black_box;
 
 use calls::{Plan, SECOND, Side, Tier};
 
-/// 1 s for 1 h, 60 s for 24 h, 1 h for 30 days.
+/// 1 s for 2 h, 60 s for 24 h, 1 h for 30 days.
 fn three(series: u32) -> Plan {
     let tier = |seconds, slots, function| Tier { interval: seconds * SECOND, slots, function };
-    Plan { schemas: 1, series, tiers: vec![tier(1, 3600, 0), tier(60, 1440, 1), tier(3600, 720, 1)] }
+    Plan { schemas: 1, series, tiers: vec![tier(1, 7200, 0), tier(60, 1440, 1), tier(3600, 720, 1)] }
 }
 
 /// The first of three's tiers alone, `schemas` of them.
 fn rings(schemas: u32, tiers: u64) -> Plan {
-    let tier = |j: u64| Tier { interval: SECOND * (j + 1), slots: 3600, function: (j > 0) as u32 };
+    let tier = |j: u64| Tier { interval: SECOND * (j + 1), slots: 7200, function: (j > 0) as u32 };
     Plan { schemas, series: 2, tiers: (0..tiers).map(tier).collect() }
 }
 
@@ -58,25 +58,25 @@ fn seconds(side: &mut dyn Side, from: u64, count: u64) {
     }
 }
 
-/// Two hours, so that the ring of seconds has wrapped.
-fn two_hours(side: &mut dyn Side) {
+/// Three hours, so that the ring of seconds has wrapped.
+fn three_hours(side: &mut dyn Side) {
     side.entries(2);
-    seconds(side, 0, 7200);
+    seconds(side, 0, 10_800);
 }
 
 /// A run after `new` seconds, in a full ring of `slots` seconds.
 fn run(name: &'static str, turns: u64, series: u32, slots: u64, new: u64) -> Measure {
     let mut plan = three(series);
     plan.tiers[0].slots = slots;
-    if slots > 3600 {
+    if slots > 7200 {
         plan.tiers.truncate(2);
     }
-    // Whole hours, so that each run starts with a minute.
+    // Whole hours, so that new seconds start with a minute.
     let filled = slots.div_ceil(3600) * 3600 + 3600;
     let setup = move |side: &mut dyn Side| {
         side.entries(series);
         seconds(side, 0, filled);
-        if slots > 3600 {
+        if slots > 7200 {
             side.set_mark(at(filled - 1));
         } else {
             side.consolidate();
@@ -118,20 +118,20 @@ fn measures() -> Vec<Measure> {
         ..base(name, turns, 2000, three(series), Box::new(|side, i| side.batch(at(i))))
     };
     let query = |name, turns, turn: Turn| Measure {
-        setup: Box::new(two_hours),
+        setup: Box::new(three_hours),
         ..base(name, turns, 10, three(2), turn)
     };
     let whole = |side: &mut dyn Side, _: u64| {
         let (n, sum) = side.query(1, 0, 0, u64::MAX);
-        assert_eq!(n, 3600);
+        assert_eq!(n, 7200);
         black_box(sum);
     };
     let point = |side: &mut dyn Side, i: u64| {
-        let t = at(3600 + i % 3600);
+        let t = at(3600 + i % 7200);
         assert_eq!(side.query(1, 0, t, t + 1).0, 1);
     };
     let auto = |side: &mut dyn Side, i: u64| {
-        let t = at(3600 + 60 * (i % 59));
+        let t = at(3600 + 60 * (i % 119));
         assert_eq!(side.query_auto(1, t, t + 60 * SECOND).0, 60);
     };
     let idle_run = |side: &mut dyn Side, _: u64| {
@@ -140,7 +140,7 @@ fn measures() -> Vec<Measure> {
     let nothing_new = Measure {
         unit: "a run",
         setup: Box::new(|side| {
-            two_hours(side);
+            three_hours(side);
             side.consolidate();
         }),
         ..base("run, nothing new", 200, 10, three(2), Box::new(idle_run))
@@ -152,23 +152,24 @@ fn measures() -> Vec<Measure> {
         record("record, 32 rows", rings(8, 4)),
         batch("batch of 2", 200_000, 2),
         batch("batch of 64", 50_000, 64),
-        Measure { per_turn: 3600, unit: "a point", ..query("query, all of 3,600 points", 50, Box::new(whole)) },
+        Measure { per_turn: 7200, unit: "a point", ..query("query, all of 7,200 points", 50, Box::new(whole)) },
         Measure {
-            per_turn: 3600,
+            per_turn: 7200,
             unit: "a point",
             setup: Box::new(|side| {
-                two_hours(side);
+                three_hours(side);
                 side.step_readers();
             }),
             ..query("the same, one point a call", 50, Box::new(whole))
         },
-        query("query, one point of 3,600", 2000, Box::new(point)),
+        query("query, one point of 7,200", 2000, Box::new(point)),
         query("query_auto, 60 points", 2000, Box::new(auto)),
-        run("run after a minute (1 window)", 20, 2, 3600, 60),
-        run("run after ten minutes (10)", 10, 2, 3600, 600),
-        run("run after an hour (60), 2 series", 5, 2, 3600, 3600),
-        run("run after an hour, 8 series", 5, 8, 3600, 3600),
-        run("run after an hour, 64 series", 3, 64, 3600, 3600),
+        run("run after each second", 60, 2, 7200, 1),
+        run("run after a minute (1 new window)", 20, 2, 7200, 60),
+        run("run after ten minutes (10)", 10, 2, 7200, 600),
+        run("run after an hour (60), 2 series", 5, 2, 7200, 3600),
+        run("run after an hour, 8 series", 5, 8, 7200, 3600),
+        run("run after an hour, 64 series", 3, 64, 7200, 3600),
         run("run after an hour, 36,000 slots", 3, 2, 36_000, 3600),
         run("run after an hour, 10^6 slots", 3, 2, 1_000_000, 3600),
         nothing_new,
@@ -227,7 +228,7 @@ fn shown(ns: f64) -> String {
 
 /// Creation of an image beside memset on the same slice, in turn: the median of each, in GB a second.
 fn fill(repetitions: usize) {
-    for slots in [3_600, 100_000, 1_000_000, 4_000_000] {
+    for slots in [7_200, 100_000, 1_000_000, 4_000_000] {
         let mut plan = three(2);
         plan.tiers.truncate(1);
         plan.tiers[0].slots = slots;

@@ -1,4 +1,4 @@
-//! The published Rust, on files in memory (/dev/shm).
+//! The published Rust with request 2026-01's line altered, on files in memory (/dev/shm).
 use std::path::PathBuf;
 use std::time::Duration;
 

@@ -224,8 +224,12 @@ static inline size_t rondo_read_points(const uint8_t *image, struct rondo_answer
 }
 
 /*
- * Brings every coarser tier up to date, and counts the values written into *count. Refuses 16, 10,
- * 12, 13 by pair of tiers: what it did before stays, *count is left.
+ * Brings every coarser tier up to date, and counts the values written into *count. It may follow any
+ * sample: the window that the last run ended in is read again from its start, over the samples that
+ * the finer ring still has; if one is left it is written and counted again, even where nothing is
+ * new. So that no closed window is averaged over its last samples alone, let every ring but the
+ * coarsest hold two of the coarsest intervals. Refuses 16, 10, 12, 13 by pair of tiers: what it did
+ * before stays, *count is left.
  */
 uint32_t rondo_consolidate(uint8_t *image, size_t image_len, uint32_t *flags, uint64_t *count);
 
