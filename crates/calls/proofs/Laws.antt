@@ -10,13 +10,14 @@ use lib.ListN.{length}
 use lib.Dec.{eqb}
 use borrow.Author.Tests.{eq-eqb}
 use Rattle.model.specs.Bytes.{u32, u64, part}
-use Rattle.model.specs.Lent.{Lent}
+use Rattle.model.specs.Lent.{Lent, opening}
 use Rattle.model.specs.Record.{entries}
 use Rattle.model.specs.Store.{call, after, consolidateCall}
 use Rattle.laws.specs.Tests.{yes-le, no-le, no-eq}
+use Rattle.bits.specs.Bits.{bits}
 use Rattle.record.specs.Done.{RecordDone}
 use Rattle.batch.specs.Done.{BatchDone}
-use Rattle.calls.specs.Encoded.{batchSize, sizeAt, recordAt, batchAt, queryAt, autoAt, callAt, callsFrom, callsIn}
+use Rattle.calls.specs.Encoded.{batchSize, sizeAt, recordAt, batchAt, queryAt, autoAt, handedAt, openAt, callAt, callsFrom, callsIn}
 
 -- ---- the size
 
@@ -49,6 +50,11 @@ module _ (l : Lent) (b : List ℕ) (o : ℕ) where
   unfolding call batchAt
   batch-recorded d p q = d .lent-is ∙ rw (p, q)
 
+  pub opened : {x : ℕ} {fs : List Bool} {u : Lent} → x ≡ u32 b (o + 4) → fs ≡ bits 32 x → u ≡ opening (record { image = l .image; flags = fs })
+      → u ≡ opening (record { image = l .image; flags = handedAt b o })
+  unfolding handedAt
+  opened p q w = w ∙ rw (q, p)
+
   pub is-record : u32 b o ≡ 0 → {u : Lent} → u ≡ call l (recordAt b o) .lent → u ≡ call l (callAt b o) .lent
   unfolding callAt
   is-record e w = w ∙ rw (eq-eqb (u32 b o) 0 e)
@@ -65,9 +71,15 @@ module _ (l : Lent) (b : List ℕ) (o : ℕ) where
   unfolding callAt call autoAt
   is-auto e = rw (no-eq (u32 b o) 0 (λ z. omega arith), no-eq (u32 b o) 1 (λ z. omega arith), no-eq (u32 b o) 2 (λ z. omega arith), eq-eqb (u32 b o) 3 e)
 
-  pub is-run : u32 b o ≢ 0 → u32 b o ≢ 1 → u32 b o ≢ 2 → u32 b o ≢ 3 → {u : Lent} → u ≡ call l consolidateCall .lent → u ≡ call l (callAt b o) .lent
+  pub is-open : u32 b o ≡ 4 → {u : Lent} → u ≡ opening (record { image = l .image; flags = handedAt b o }) → u ≡ call l (callAt b o) .lent
+  unfolding callAt call openAt
+  is-open e w =
+      w ∙
+      rw (no-eq (u32 b o) 0 (λ z. omega arith), no-eq (u32 b o) 1 (λ z. omega arith), no-eq (u32 b o) 2 (λ z. omega arith), no-eq (u32 b o) 3 (λ z. omega arith), eq-eqb (u32 b o) 4 e)
+
+  pub is-run : u32 b o ≢ 0 → u32 b o ≢ 1 → u32 b o ≢ 2 → u32 b o ≢ 3 → u32 b o ≢ 4 → {u : Lent} → u ≡ call l consolidateCall .lent → u ≡ call l (callAt b o) .lent
   unfolding callAt
-  is-run p q r s w = w ∙ rw (no-eq (u32 b o) 0 p, no-eq (u32 b o) 1 q, no-eq (u32 b o) 2 r, no-eq (u32 b o) 3 s)
+  is-run p q r s t w = w ∙ rw (no-eq (u32 b o) 0 p, no-eq (u32 b o) 1 q, no-eq (u32 b o) 2 r, no-eq (u32 b o) 3 s, no-eq (u32 b o) 4 t)
 
 -- ---- the loop over the calls
 

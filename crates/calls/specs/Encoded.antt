@@ -1,14 +1,16 @@
 -- A list of calls in bytes, 32 bytes a call: kind u32, schema u32, column u32, tier u32, then two u64. Kind 0 records (value, stamp); 1 is a batch (the
 -- number of its entries stands in the tier's place, its stamp in the second u64, and the entries follow, 16 bytes each); 2 queries a tier and 3
--- automatically (start, end); any other kind consolidates. A last part too short for its call is surplus. Assumes nothing.
+-- automatically (start, end); 4 opens (the 32 flags that it is handed stand in the schema's place, bit i is flag i); any other kind consolidates. A last part
+-- too short for its call is surplus. Assumes nothing.
 use Prim.Native.Nat.{ℕ, zero, suc, _+_, _*_, _/_}
-use mathlib.Core.Bool.{cond}
+use mathlib.Core.Bool.{Bool, cond}
 use mathlib.Core.List.{List, [], _∷_}
 use lib.ListN.{length}
 use lib.Dec.{leb, eqb}
 use Rattle.model.specs.Bytes.{u32, u64, part}
 use Rattle.model.specs.Record.{entries}
-use Rattle.model.specs.Store.{Call, recordCall, batchCall, queryCall, autoCall, consolidateCall}
+use Rattle.model.specs.Store.{Call, recordCall, batchCall, queryCall, autoCall, consolidateCall, openCall}
+use Rattle.bits.specs.Bits.{bits}
 
 -- ---- the call at offset o
 
@@ -31,10 +33,18 @@ queryAt b o = queryCall (u32 b (o + 4)) (u32 b (o + 8)) (u32 b (o + 12)) (u64 b 
 unfoldable pub autoAt : List ℕ → ℕ → Call
 autoAt b o = autoCall (u32 b (o + 4)) (u32 b (o + 8)) (u64 b (o + 16)) (u64 b (o + 24))
 
+-- the flags that an opening is handed
+unfoldable pub handedAt : List ℕ → ℕ → List Bool
+handedAt b o = bits 32 (u32 b (o + 4))
+
+unfoldable pub openAt : List ℕ → ℕ → Call
+openAt b o = openCall (handedAt b o)
+
 unfoldable pub callAt : List ℕ → ℕ → Call
 callAt b o =
     cond (eqb (u32 b o) 0) (recordAt b o)
-    (cond (eqb (u32 b o) 1) (batchAt b o) (cond (eqb (u32 b o) 2) (queryAt b o) (cond (eqb (u32 b o) 3) (autoAt b o) consolidateCall)))
+    (cond (eqb (u32 b o) 1) (batchAt b o)
+    (cond (eqb (u32 b o) 2) (queryAt b o) (cond (eqb (u32 b o) 3) (autoAt b o) (cond (eqb (u32 b o) 4) (openAt b o) consolidateCall))))
 
 -- ---- the list
 

@@ -3,9 +3,10 @@
 ghost use mathlib.Core.Path.{_≡_};
 ghost use Prim.Native.Nat.{_+_, _≤_};
 ghost use lib.ListN.{length};
+ghost use Rattle.model.specs.Lent.{opening};
 ghost use Rattle.model.specs.Store.{call, after, consolidateCall};
 ghost use Rattle.lent.specs.Parts.{lentOf};
-ghost use Rattle.calls.specs.Encoded.{batchSize, sizeAt, recordAt, batchAt, callAt, callsIn};
+ghost use Rattle.calls.specs.Encoded.{batchSize, sizeAt, recordAt, batchAt, handedAt, callAt, callsIn};
 
 // How many bytes the call at an offset takes.
 fn size_at(calls: &[u8], at: usize) -> usize
@@ -50,6 +51,17 @@ fn carry_batch(image: &mut [u8], flags: model::Flags, calls: &[u8], at: usize) -
     done.flags
 }
 
+// Carries out the opening at an offset, which is handed its own flags. Answers the flags.
+fn carry_open(image: &[u8], calls: &[u8], at: usize) -> model::Flags
+    requires { ⌜ at + 32 ≤ length (now calls) ⌝ }
+    ensures { λ r. ⌜ lentOf (now (image .entry)) r ≡ opening (record { image = now (image .entry); flags = handedAt (now (calls .entry)) at }) ⌝ }
+{
+    let number = field::get_u32(calls, at + 4);
+    let handed = bits::flags_of(number as u32);
+    let done = open::open(image, handed);
+    done.flags
+}
+
 // Carries out a consolidation. Answers the flags.
 fn carry_run(image: &mut [u8], flags: model::Flags) -> model::Flags
     ensures { λ r. ⌜ lentOf (now (image .exit)) r ≡ call (lentOf (now (image .entry)) flags) consolidateCall .lent ⌝ }
@@ -75,6 +87,9 @@ fn carry_one(image: &mut [u8], flags: model::Flags, calls: &[u8], at: usize) -> 
     }
     if kind == 3 {
         return flags;
+    }
+    if kind == 4 {
+        return carry_open(image, calls, at);
     }
     carry_run(image, flags)
 }

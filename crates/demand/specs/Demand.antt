@@ -1,5 +1,5 @@
--- The third demand as request 2026-01 restates it: the words of document 01's "Words of the third demand" and of the request, each with its definition, and the
--- claim about lists of calls. Its proof stands in the crate fidelity. Assumes nothing.
+-- The third demand as requests 2026-01 and 2026-02 restate it: the words of document 01's "Words of the third demand" and of the requests, each with its definition,
+-- and the claim about lists of calls, openings among them. Its proof stands in the crate fidelity. Assumes nothing.
 use Prim.Native.Nat.{ℕ, zero, suc, _+_, _-_, _*_, _/_, _%_, _^_, _<_, min}
 use mathlib.Core.Path.{_≡_}
 use mathlib.Core.Bool.{Bool, true, false, not, _&&_, _||_, cond}
@@ -15,7 +15,7 @@ use Rattle.model.specs.Read.{pointsOf}
 use Rattle.model.specs.Lent.{Lent, creation}
 use Rattle.model.specs.Record.{Entry, recordCheck, batchCheck}
 use Rattle.model.specs.Query.{Answered}
-use Rattle.model.specs.Store.{Call, Reply, call, after, recordCall, batchCall, queryCall, autoCall, consolidateCall, refused, done, wrote, read}
+use Rattle.model.specs.Store.{Call, Reply, call, after, recordCall, batchCall, queryCall, autoCall, consolidateCall, openCall, refused, done, wrote, read}
 
 -- ---- the plan: two to four tiers
 
@@ -41,7 +41,7 @@ unfoldable pub suited : List Row → Bool
 suited [] = false
 suited (r ∷ rs) = leb 1 (length rs) && leb (length rs) 3 && averaging r rs && spanning (lastInterval r rs) (r ∷ rs)
 
--- ---- what the calls did: samples and runs. Accepted and refused go by the rules
+-- ---- what the calls did: samples and runs. Accepted and refused go by the rules; a query and an opening do neither, so they may stand anywhere
 
 -- the column, stamp and value of an accepted record, or of one entry of an accepted batch
 pub record Sample : Type 0 where
@@ -64,6 +64,7 @@ eventsOf l (batchCall es t) = ifAccepted (batchCheck l es t) (map (λ e. took (r
 eventsOf l (queryCall k c j start end) = []
 eventsOf l (autoCall k c start end) = []
 eventsOf l consolidateCall = ran ∷ []
+eventsOf l (openCall fs) = []
 
 -- each call is lent what the call before left
 unfoldable pub events : Lent → List Call → List Event

@@ -13,15 +13,15 @@ use Rattle.model.specs.declared.Point.{Point}
 use Rattle.model.specs.Image.{rows, createCheck}
 use Rattle.model.specs.Lent.{Lent}
 use Rattle.model.specs.Record.{Entry}
-use Rattle.model.specs.Store.{Call, call, after, recordCall, batchCall, queryCall, autoCall, consolidateCall}
+use Rattle.model.specs.Store.{Call, call, after, recordCall, batchCall, queryCall, autoCall, consolidateCall, openCall}
 use Rattle.demand.specs.Demand.{Demand-defs, Situation, Event, took, ran, samplesIn, suited, scheduled, supposed, history, newestWindows, each, answers, used, events, created, upToRun, afterRun, handedOut}
 use Rattle.model.specs.Cases.{Cases-defs, tierOf, tier, plan, num, infinity, at}
 
 -- ---- the list
 
--- 10, 20 and 40 ns; 8, 4 and 2 slots
+-- 10, 20 and 40 ns; 8, 4 and 3 slots
 unfoldable pub tiers : List Row
-tiers = tier 0 10 80 0 ∷ tier 1 20 80 1 ∷ tier 2 40 80 1 ∷ []
+tiers = tier 0 10 80 0 ∷ tier 1 20 80 1 ∷ tier 2 40 120 1 ∷ []
 
 -- -n - 1
 unfoldable pub minus : ℕ → ℕ
@@ -35,22 +35,27 @@ unfoldable pub both : ℕ → ℕ → ℕ → Call
 both t a b = batchCall (record { schema = 0; column = 1; value = a } ∷ record { schema = 0; column = 0; value = b } ∷ []) t
 
 -- two runs after the first tick of the first coarsest interval, one after the last of the second, as far behind them as it may be; the run after the third
--- tick of the third, in the middle of a window of 20 and of one of 40, is left to Situation. Refused records, a query and an empty batch stand between
+-- tick of the third, in the middle of a window of 20 and of one of 40, is left to Situation. Refused records, a query and an empty batch stand between.
+-- Openings, handed flags that are all true, all false or none: before the first sample; after the first run and before the second; within the tick 80; after the
+-- third run. At the tick 80 the finest ring has just gone round, and its slot 1 has no stamp yet: by document 01's own rule the opening would set no flag, the third
+-- run would not see 50 to 70, and the coarsest tier's first point of column 1 would be 1
 unfoldable pub calls : List Call
 calls =
-    both 40 (num 1) minusZero ∷ consolidateCall ∷ consolidateCall ∷ recordCall 0 0 (num 3) 50 ∷ recordCall 0 1 (num 3) 0 ∷ recordCall 0 1 (minus 3) 50
+    openCall (replicate 32 true) ∷ both 40 (num 1) minusZero ∷ consolidateCall ∷ openCall (replicate 32 true) ∷ consolidateCall
+    ∷ recordCall 0 0 (num 3) 50 ∷ recordCall 0 1 (num 3) 0 ∷ recordCall 0 1 (minus 3) 50
     ∷ both 60 (num 7) (num 7) ∷ both 70 (num 2) (minus 0) ∷ queryCall 0 0 0 0 9 ∷ batchCall [] 0
-    ∷ recordCall 0 0 (num 2) 80 ∷ recordCall 0 1 (num 1) 80 ∷ both 90 (num 2) (num 5) ∷ both 100 (num 1) (num 2) ∷ recordCall 0 1 infinity 110 ∷ both 110 (num 4) (num 2)
-    ∷ consolidateCall ∷ both 120 (num 3) (num 1) ∷ both 130 (num 6) (num 2) ∷ both 140 (num 5) (num 9) ∷ []
+    ∷ recordCall 0 0 (num 2) 80 ∷ openCall (replicate 32 false) ∷ recordCall 0 1 (num 1) 80 ∷ both 90 (num 2) (num 5) ∷ both 100 (num 1) (num 2) ∷ recordCall 0 1 infinity 110 ∷ both 110 (num 4) (num 2)
+    ∷ consolidateCall ∷ openCall [] ∷ both 120 (num 3) (num 1) ∷ both 130 (num 6) (num 2) ∷ both 140 (num 5) (num 9) ∷ []
 
--- column c at tier k; a refused record and a query stand between the run and the query
+-- column c at tier k; a refused record, an opening and a query stand between the run and the query. The opening finds tier 1's cursor in the last slot, so it turns
+-- that flag from true to false; no point is lost
 unfoldable pub story : ℕ → ℕ → Situation
 story c k = record {
   plan = plan tiers;
-  buf = replicate 780 9;
+  buf = replicate 804 9;
   flags = replicate 32 true;
   before = calls;
-  between = recordCall 0 9 0 0 ∷ autoCall 0 1 0 9 ∷ [];
+  between = recordCall 0 9 0 0 ∷ openCall (replicate 32 false) ∷ autoCall 0 1 0 9 ∷ [];
   column = c;
   tier = k;
 }
@@ -60,7 +65,7 @@ unfolding Cases-defs Demand-defs tiers minus minusZero both calls story
 Instance-defs = tt
 
 -- the supposition is met
-pub accepted-plan : createCheck (plan tiers) (replicate 780 9) ≡ 0
+pub accepted-plan : createCheck (plan tiers) (replicate 804 9) ≡ 0
 unfolding Instance-defs
 accepted-plan = refl
 
@@ -68,7 +73,7 @@ pub suited-plan : T (suited (rows (plan tiers)))
 unfolding Instance-defs
 suited-plan = tt
 
--- each of its rings spans two coarsest intervals, and no more: with a slot less in any of them it is not suited
+-- its finer rings span exactly two coarsest intervals: with a slot less in one of them, or a coarsest ring of one slot, it is not suited
 pub slot-less :
     suited (tier 0 10 70 0 ∷ tier 1 20 80 1 ∷ tier 2 40 80 1 ∷ []) ∷ suited (tier 0 10 80 0 ∷ tier 1 20 60 1 ∷ tier 2 40 80 1 ∷ [])
     ∷ suited (tier 0 10 80 0 ∷ tier 1 20 80 1 ∷ tier 2 40 40 1 ∷ []) ∷ []
@@ -101,10 +106,12 @@ pub quiet : events (afterRun (story 1 0)) (story 1 0 .between) ≡ []
 unfolding Instance-defs
 quiet = refl
 
--- the windows that are due at the three tiers: of these, 140 at tier 1 and 120 at tier 2 are still open. Five slots would hold the first of tier 2 as well
+-- the windows that are due at the three tiers: of these, 140 at tier 1 and 120 at tier 2 are still open. Two slots at tier 2 would not hold its first, and five
+-- would hold no more
 pub dues :
-    newestWindows 10 8 (samplesIn did) ∷ newestWindows 20 4 (samplesIn did) ∷ newestWindows 40 2 (samplesIn did) ∷ newestWindows 40 5 (samplesIn did) ∷ []
-    ≡ (70 ∷ 80 ∷ 90 ∷ 100 ∷ 110 ∷ 120 ∷ 130 ∷ 140 ∷ []) ∷ (80 ∷ 100 ∷ 120 ∷ 140 ∷ []) ∷ (80 ∷ 120 ∷ []) ∷ (40 ∷ 80 ∷ 120 ∷ []) ∷ []
+    newestWindows 10 8 (samplesIn did) ∷ newestWindows 20 4 (samplesIn did) ∷ newestWindows 40 3 (samplesIn did)
+    ∷ newestWindows 40 2 (samplesIn did) ∷ newestWindows 40 5 (samplesIn did) ∷ []
+    ≡ (70 ∷ 80 ∷ 90 ∷ 100 ∷ 110 ∷ 120 ∷ 130 ∷ 140 ∷ []) ∷ (80 ∷ 100 ∷ 120 ∷ 140 ∷ []) ∷ (40 ∷ 80 ∷ 120 ∷ []) ∷ (80 ∷ 120 ∷ []) ∷ (40 ∷ 80 ∷ 120 ∷ []) ∷ []
 unfolding Instance-defs sample did
 dues = refl
 
@@ -147,9 +154,9 @@ finestPoints = at 70 2 ∷ at 80 1 ∷ at 90 2 ∷ at 100 1 ∷ at 110 4 ∷ at 
 unfoldable pub middlePoints : List Point
 middlePoints = point 80 0x3ff8_0000_0000_0000 ∷ point 100 0x4004_0000_0000_0000 ∷ point 120 0x4012_0000_0000_0000 ∷ at 140 5 ∷ []
 
--- 2; 4.75, the mean of 4.5 and 5, though the samples so far, 3, 6 and 5, have the mean 14 / 3
+-- 1.5, 2; 4.75, the mean of 4.5 and 5, though the samples so far, 3, 6 and 5, have the mean 14 / 3
 unfoldable pub coarsestPoints : List Point
-coarsestPoints = at 80 2 ∷ point 120 0x4013_0000_0000_0000 ∷ []
+coarsestPoints = point 40 0x3ff8_0000_0000_0000 ∷ at 80 2 ∷ point 120 0x4013_0000_0000_0000 ∷ []
 
 -- 3.5, 2, 1.5; 9
 unfoldable pub otherColumn : List Point
@@ -158,20 +165,28 @@ otherColumn = point 80 0x400c_0000_0000_0000 ∷ at 100 2 ∷ point 120 0x3ff8_0
 unfoldable pub numbers : List (List Point)
 numbers = finestPoints ∷ middlePoints ∷ coarsestPoints ∷ otherColumn ∷ []
 
--- the calls are computed once for all four queries
-pub read-is : T (alike (read (after (afterRun (story 0 0)) (story 0 0 .between))) numbers)
-unfolding Instance-defs same alike points read point finestPoints middlePoints coarsestPoints otherColumn numbers
+-- read before the calls between, with the flags as left, and after them
+unfoldable pub readTwice : Lent → List Call → Bool
+readTwice l cs = alike (read l) numbers && alike (read (after l cs)) numbers
+
+second : (a b : Bool) → T (a && b) → T b
+second true b h = h
+second false b h = absurd h
+
+-- the calls are computed once for all eight queries
+pub read-is : T (readTwice (afterRun (story 0 0)) (story 0 0 .between))
+unfolding Instance-defs same alike points read point finestPoints middlePoints coarsestPoints otherColumn numbers readTwice
 read-is = tt
 
 pub points-are : T (alike (answers (story 1 0) ∷ answers (story 1 1) ∷ answers (story 1 2) ∷ answers (story 0 1) ∷ []) numbers)
-unfolding story created upToRun afterRun answers points read
-points-are = read-is
+unfolding story created upToRun afterRun answers points read readTwice
+points-are = second (alike (read (afterRun (story 0 0))) numbers) (alike (read (after (afterRun (story 0 0)) (story 0 0 .between))) numbers) read-is
 
 -- they are as promised
 pub promised :
     each 10 1 10 0 (samplesIn did) (70 ∷ 80 ∷ 90 ∷ 100 ∷ 110 ∷ 120 ∷ 130 ∷ 140 ∷ []) finestPoints
     && each 10 1 20 1 (samplesIn did) (80 ∷ 100 ∷ 120 ∷ 140 ∷ []) middlePoints
-    && each 10 1 40 2 (samplesIn did) (80 ∷ 120 ∷ []) coarsestPoints
+    && each 10 1 40 2 (samplesIn did) (40 ∷ 80 ∷ 120 ∷ []) coarsestPoints
     ≡ true
 unfolding Instance-defs sample did point finestPoints middlePoints coarsestPoints
 promised = refl

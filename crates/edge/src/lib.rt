@@ -42,7 +42,7 @@ pub extern "C" fn rondo_create(plan: &[u8], image: &mut [u8], flags: &mut u32) -
     model::outcome_number(outcome)
 }
 
-// Checks an image and works out the flags of its rows. Flags past them stay.
+// Checks an image and works out the flags of its rows, each from the stamps above its ring's cursor. Flags past them stay.
 #[no_mangle]
 pub extern "C" fn rondo_open(image: &[u8], flags: &mut u32) -> u32
     ensures answer { λ r. ⌜ r ≡ openCheck (now (image .entry)) ⌝ }

@@ -21,8 +21,8 @@ use Rattle.model.specs.Read.{step}
 use Rattle.model.specs.Lent.{Lent, creation, opening, ring}
 use Rattle.demand.specs.Demand.{Demand-defs, within}
 use Rattle.model.specs.Record.{Entry, entries}
-use Rattle.model.specs.Store.{Call, Reply, Done, call, recordCall, batchCall, queryCall, autoCall, consolidateCall, refused, done, wrote, read}
-use Rattle.model.specs.Cases.{Cases-defs, tierOf, tier, planOf, plan, num, infinity, fresh, Question, story, reopened, window, Shown, refusal, accepted, writes, points, Result, last, value, empty, nothingFinite, Case, _gives_, Holds, ring10, two, rec, end64, everything, at, lastCall, shownOn}
+use Rattle.model.specs.Store.{Call, Reply, Done, call, recordCall, batchCall, queryCall, autoCall, consolidateCall, openCall, refused, done, wrote, read, Shown, refusal, accepted, writes, points, shown}
+use Rattle.model.specs.Cases.{Cases-defs, tierOf, tier, planOf, plan, num, infinity, fresh, Question, story, window, Result, last, value, empty, nothingFinite, Case, _gives_, Holds, ring10, two, rec, end64, everything, at, lastCall, shownOn}
 
 unfoldable pub both : ℕ → ℕ → ℕ → Call
 both t a b = batchCall (record { schema = 0; column = 0; value = a } ∷ record { schema = 0; column = 1; value = b } ∷ []) t
@@ -56,9 +56,9 @@ rows =
     ∷ (story small (covering ++ autoCall 0 0 30 60 ∷ []) gives last (true ∷ false ∷ []) (80 ∷ 0 ∷ []) (points 1 (At 30) (At 60) 30 60 false (at 30 3 ∷ [])))
     ∷ (story small (covering ++ autoCall 0 0 30 81 ∷ []) gives last (true ∷ false ∷ []) (80 ∷ 0 ∷ []) (points 1 (At 30) (At 60) 30 81 false (at 30 3 ∷ at 60 7 ∷ [])))
     -- D reopened is wrapped; a ring of one slot is not
-    ∷ (reopened (ring10 4) (rec 10 1 ∷ rec 20 2 ∷ rec 30 3 ∷ rec 40 4 ∷ []) (everything 0)
+    ∷ (story (ring10 4) (rec 10 1 ∷ rec 20 2 ∷ rec 30 3 ∷ rec 40 4 ∷ openCall (replicate 32 false) ∷ everything 0 ∷ [])
     gives last (true ∷ []) (0 ∷ []) (points 0 (At 10) (At 40) 0 end64 true (at 10 1 ∷ at 20 2 ∷ at 30 3 ∷ at 40 4 ∷ [])))
-    ∷ (reopened (ring10 1) (rec 10 1 ∷ rec 20 2 ∷ []) (everything 0) gives last (false ∷ []) (0 ∷ []) (points 0 (At 20) (At 20) 0 end64 true (at 20 2 ∷ [])))
+    ∷ (story (ring10 1) (rec 10 1 ∷ rec 20 2 ∷ openCall (replicate 32 true) ∷ everything 0 ∷ []) gives last (false ∷ []) (0 ∷ []) (points 0 (At 20) (At 20) 0 end64 true (at 20 2 ∷ [])))
     -- the count is of writes, not of windows
     ∷ (story (by 1) (both 20 (num 1) (num 2) ∷ both 30 (num 3) (num 4) ∷ consolidateCall ∷ []) gives last (false ∷ false ∷ []) (30 ∷ 0 ∷ []) (writes 2))
     -- each function by its number: Min, Max, Last, Sum, Count of 3 and 2

@@ -1,17 +1,15 @@
--- The wrap flags that opening works out, row by row, and the rows' numbers by schema and tier. By computation. Assumes nothing.
-use Prim.Native.Nat.{ℕ, _-_}
+-- The wrap flags that opening works out, row by row; opening as a call; the rows' numbers by schema and tier. By computation. Assumes nothing.
+use Prim.Native.Nat.{ℕ, _+_, _-_, _*_}
 use mathlib.Core.Path.{_≡_, refl}
 use mathlib.Core.Bool.{Bool, true, false}
 use mathlib.Core.List.{List, [], _∷_, map}
 use lib.ListN.{drop, replicate}
-use Rattle.model.specs.declared.Row.{Row}
-use Rattle.model.specs.declared.Place.{Place}
-use Rattle.model.specs.declared.End.{End}
 use Rattle.model.specs.declared.End.the-variants.{At, Missing}
 use Rattle.model.specs.Bytes.{put}
 use Rattle.model.specs.Layout.{freshSlab}
 use Rattle.model.specs.Ring.{Ring, wrapFlag, oldest, newest, order, firstPlace}
 use Rattle.model.specs.Lent.{Lent, creation, opening, ring, rowNo, tiers}
+use Rattle.model.specs.Store.{call, openCall, refused, done}
 use Rattle.model.specs.Cases.{Cases-defs, tierOf, planOf}
 
 -- ---- one slab's flag
@@ -24,13 +22,23 @@ stamped cursor a b c = put 8 (put 8 (put 8 (put 4 (freshSlab 7 3 1 10) 32 cursor
 unfoldable pub stamped2 : ℕ → ℕ → ℕ → List ℕ
 stamped2 cursor a b = put 8 (put 8 (put 4 (freshSlab 7 2 1 10) 32 cursor) 68 a) 76 b
 
--- the cursor above 0, not at the last slot: the stamp after it alone counts. At the last slot the one after it is slot 0's. At 0 it is slot 1's, also of two slots
+-- a stamp in any slot above the cursor counts, in the next one or in the last; those below it and at it do not, and above the last slot there is none. Any
+-- nonzero stamp counts: the one at the cursor once more, and one with its highest bit alone
 pub flags-are :
     map wrapFlag (stamped 1 10 20 30 ∷ stamped 1 0 20 30 ∷ stamped 1 10 20 0 ∷ stamped 2 10 0 20 ∷ stamped 2 0 10 20
-    ∷ stamped 0 10 20 0 ∷ stamped 0 10 0 20 ∷ stamped2 0 10 20 ∷ stamped2 0 10 0 ∷ stamped2 1 10 20 ∷ stamped2 1 0 20 ∷ [])
-    ≡ true ∷ true ∷ false ∷ true ∷ false ∷ true ∷ false ∷ true ∷ false ∷ true ∷ false ∷ []
+    ∷ stamped 0 10 20 0 ∷ stamped 0 10 0 20 ∷ stamped 0 0 0 20 ∷ stamped 0 10 0 0 ∷ stamped2 0 10 20 ∷ stamped2 0 10 0 ∷ stamped2 1 10 20 ∷ stamped2 1 0 20
+    ∷ stamped 1 10 20 20 ∷ stamped 0 10 0 0x8000_0000_0000_0000 ∷ [])
+    ≡ true ∷ true ∷ false ∷ false ∷ false ∷ true ∷ true ∷ true ∷ false ∷ true ∷ false ∷ false ∷ false ∷ true ∷ true ∷ []
 unfolding Cases-defs stamped stamped2
 flags-are = refl
+
+-- twelve slots, a stamp in slot i alone: the tenth above the cursor, the ninth, the first; one below it
+unfoldable pub stampedAt : ℕ → ℕ → List ℕ
+stampedAt cursor i = put 8 (put 4 (freshSlab 7 12 1 10) 32 cursor) (68 + 8 * i) 120
+
+pub far-are : map wrapFlag (stampedAt 1 11 ∷ stampedAt 1 10 ∷ stampedAt 10 11 ∷ stampedAt 11 10 ∷ []) ≡ true ∷ true ∷ true ∷ false ∷ []
+unfolding Cases-defs stampedAt
+far-are = refl
 
 -- ---- an image of two rows: a slab of three slots at 160, one of two at 276
 
@@ -66,6 +74,20 @@ pub refused-leaves :
     × (refusedOn (put 1 firstWrapped 0 0) ≡ record { image = put 1 firstWrapped 0 0; flags = before }) × (refusedOn [] ≡ record { image = []; flags = before })
 unfolding Cases-defs fresh2 firstWrapped before refusedOn
 refused-leaves = (refl, refl, refl)
+
+-- ---- opening as a call
+
+-- other flags than those before, in every place
+unfoldable pub others : List Bool
+others = false ∷ true ∷ true ∷ false ∷ replicate 28 false
+
+-- the flags that it is handed take the place of those before: past R they stay, and all of them stay where it is refused
+pub opened-call :
+    (call (record { image = firstWrapped; flags = before }) (openCall others) ≡ record { reply = done; lent = record { image = firstWrapped; flags = true ∷ false ∷ drop 2 others } })
+    × (call (record { image = put 1 firstWrapped 276 0; flags = before }) (openCall others)
+    ≡ record { reply = refused 10; lent = record { image = put 1 firstWrapped 276 0; flags = others } })
+unfolding Cases-defs fresh2 firstWrapped before others
+opened-call = (refl, refl)
 
 -- ---- a ring by hand
 

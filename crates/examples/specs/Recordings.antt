@@ -12,8 +12,8 @@ use Rattle.model.specs.Layout.{freshHead, freshSlab}
 use Rattle.model.specs.Ring.{Ring, ColumnValue, write, stamp}
 use Rattle.model.specs.Lent.{Lent, creation, ring}
 use Rattle.model.specs.Record.{Entry, entries}
-use Rattle.model.specs.Store.{Call, Reply, Done, call, after, recordCall, batchCall, queryCall, autoCall, consolidateCall, refused, done, wrote, read}
-use Rattle.model.specs.Cases.{Cases-defs, tierOf, tier, planOf, num, infinity, Question, story, Shown, accepted, writes, points, Result, last, Case, _gives_, Holds, rec, end64, everything, at}
+use Rattle.model.specs.Store.{Call, Reply, Done, call, after, recordCall, batchCall, queryCall, autoCall, consolidateCall, refused, done, wrote, read, Shown, accepted, writes, points, shown}
+use Rattle.model.specs.Cases.{Cases-defs, tierOf, tier, planOf, num, infinity, Question, story, Result, last, Case, _gives_, Holds, rec, end64, everything, at}
 
 -- ---- patterns: NaN by its exponent and a fraction that is not zero, whatever sign and quiet bit
 

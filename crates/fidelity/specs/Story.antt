@@ -1,6 +1,7 @@
 -- From creation through the calls up to a run to the query after it, for one situation and its supposition: the stronger demand. The plan and the samples
--- make a set-up; the store that creation leaves belongs to it, and the calls keep that; the calls between change nothing; the query of a used column at tier k
--- hands out one point for each window that is due, and that of a closed one is within k / 4,096 of its samples' exact mean. Assumes nothing.
+-- make a set-up; the store that creation leaves belongs to it, and the calls keep that; the calls between, openings among them, leave every tier with what the run
+-- gave it; the query of a used column at tier k hands out one point for each window that is due, and that of a closed one is within k / 4,096 of its samples' exact
+-- mean. Assumes nothing.
 use Prim.Native.Nat.{ℕ, suc, _+_, _-_, _*_, _/_, _%_, _^_, _≤_, _<_}
 use native.Mathlib.Nat.{mul-assoc, mul-le-mul-right, div-mul-le-self, eq-of-mul-eq-mul-right, le-of-mul-le-mul-right, le-div-iff-mul-le, mul-add-div-right}
 use native.Mathlib.Omega.{arith}
@@ -20,6 +21,7 @@ use Rattle.laws.specs.Tests.{lt-is}
 use Rattle.rings.specs.Hold.{firstHeld}
 use Rattle.rings.specs.Read.{pts}
 use Rattle.pairs.specs.Answers.{valuesOf}
+use Rattle.frame.specs.Calls.{after-append}
 use Rattle.fresh.specs.Creation.{low-open}
 use Rattle.samples.specs.Lists.{ofColumn, samples-append, first-le-last, multiple}
 use Rattle.samples.specs.Schedule.{touched, lastStamp, ends-run}
@@ -30,8 +32,8 @@ use Rattle.runs.specs.Run.{Settled}
 use Rattle.runs.specs.Between.{Fits, column-in, Next}
 use Rattle.runs.specs.AtRun.{RanOn, ran-here}
 use Rattle.runs.specs.Accepted.{Accepted, accepted-calls, last-low, some-opens, first-pos}
-use Rattle.runs.specs.Calls.{after-append, events-append, calls}
-use Rattle.runs.specs.Query.{idle-calls, answer-is}
+use Rattle.runs.specs.Calls.{events-append, calls}
+use Rattle.runs.specs.Query.{settled-calls, answer-is}
 use Rattle.fidelity.specs.Values.{tierLong, tierValue, soFar, length-values, value-within, long-pos, so-closed}
 use Rattle.fidelity.specs.Exact.{within-is}
 use Rattle.fidelity.specs.Sums.{OnTicks, window-count, window-sum}
@@ -184,10 +186,16 @@ module _ (s : Situation) (h : Supposition s) where
   after-run : after (creation p l) (before ++ consolidateCall ∷ []) ≡ left
   after-run = after-append before (creation p l) (consolidateCall ∷ []) ∙ unfold after call finished in refl
 
-  -- the calls between change nothing
-  pub left-is : after (afterRun s) (s .between) ≡ left
+  -- what the query is lent
+  abbrev asked : Lent
+  asked = after (afterRun s) (s .between)
+
+  -- the calls between leave settled what the run left so
+  still-settled : Settled S asked E
   unfolding afterRun created upToRun
-  left-is = idle-calls (s .between) (after (creation p l) (before ++ consolidateCall ∷ [])) (h .quiet) ∙ after-run
+  still-settled =
+      settled-calls (s .between) (after (creation p l) (before ++ consolidateCall ∷ [])) (h .quiet)
+      (subst (λ (m : Lent). Settled S m E) (sym after-run) (subst (Settled S left) last-run (done .settled)))
 
   -- ---- the query
 
@@ -230,9 +238,9 @@ module _ (s : Situation) (h : Supposition s) where
   abbrev W : ℕ → ℕ
   W = soFar (ratio p) X (A * per p 0 + E) k
 
-  points-are : handedOut (call left (queryCall 0 c k 0 (2 ^ 64 - 1)) .reply) ≡ pts W i first (A * m + touched L E - first)
+  points-are : handedOut (call asked (queryCall 0 c k 0 (2 ^ 64 - 1)) .reply) ≡ pts W i first (A * m + touched L E - first)
   unfolding S setting supplied ticks
-  points-are = answer-is (subst (Settled S left) last-run (done .settled)) (omega arith) c k here-too hu hk
+  points-are = answer-is still-settled (omega arith) c k here-too hu hk
 
   -- number q's value against the samples of its window, where that is closed
   near : (q : ℕ) → A * m ≤ q → q < A * m + E / L
@@ -273,7 +281,7 @@ module _ (s : Situation) (h : Supposition s) where
 
   pub as-promised : T (each (rowAt p 0 .interval) c (rowAt p k .interval) k xs
       (newestWindows (rowAt p k .interval) (rowSlots (rowAt p k)) xs)
-      (handedOut (call left (queryCall 0 c k 0 (2 ^ 64 - 1)) .reply)))
+      (handedOut (call asked (queryCall 0 c k 0 (2 ^ 64 - 1)) .reply)))
   as-promised =
       rw (windows, points-are, each-is d c i k xs W first (A * m + touched L E - first) (λ q x y z. near q (low q x) (closed-no q z))) tt
     where

@@ -2,12 +2,12 @@
 -- added to its supposition and nothing taken from its conclusion. It follows from `stronger`, which supposes less (Stronger). Assumes nothing.
 use Rattle.demand.specs.Demand.{finest, answers, tierInterval, due, ThirdDemand}
 use Rattle.fidelity.specs.Stronger.{StrongerDemand}
-use Rattle.fidelity.specs.Story.{samples-are, left-is, as-promised}
+use Rattle.fidelity.specs.Story.{samples-are, as-promised}
 use Rattle.fidelity.specs.Tests.{clauses}
 
 pub stronger : StrongerDemand
 unfolding StrongerDemand finest answers tierInterval due
-stronger s h = rw (samples-are s, left-is s h) (as-promised s h)
+stronger s h = rw (samples-are s) (as-promised s h)
 
 pub proof : ThirdDemand
 unfolding ThirdDemand StrongerDemand

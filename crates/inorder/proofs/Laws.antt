@@ -16,7 +16,8 @@ use Rattle.window.specs.Parts.{Readable, jobIn}
 use Rattle.window.proofs.Laws.{order-is, window-again}
 use Rattle.span.specs.declared.Run.{Run}
 use Rattle.span.specs.Parts.{from, rising, Skipped, Ran}
-use Rattle.span.specs.Rest.{Rest, length-walk, begin, nothing-left, run-same, run-done}
+use Rattle.rings.specs.Numbers.{length-walk}
+use Rattle.span.specs.Rest.{Rest, begin, nothing-left, run-same, run-done}
 use Rattle.span.proofs.Laws.{walk-first}
 use Rattle.fill.specs.Parts.{Covers, Whole}
 use Rattle.fill.proofs.Laws.{refused-windows}

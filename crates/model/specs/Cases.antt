@@ -20,13 +20,13 @@ use Rattle.model.specs.Words.{Words-defs}
 use Rattle.model.specs.Layout.{Layout-defs, freshValue, stampsAt, columnAt, slabLength}
 use Rattle.model.specs.Image.{Image-defs, rows, rowPlace, rowCount, placedRows, allRows, planCheck, createCheck, openCheck, imageLength, rowSlots}
 use Rattle.model.specs.Ring.{Ring-defs}
-use Rattle.model.specs.Read.{Read-defs, full, incomplete, pointsOf}
+use Rattle.model.specs.Read.{Read-defs, full, incomplete}
 use Rattle.model.specs.Window.{Window-defs, heldValue, seen, finites, answerOf}
-use Rattle.model.specs.Lent.{Lent-defs, Lent, creation, opening}
+use Rattle.model.specs.Lent.{Lent-defs, Lent, creation}
 use Rattle.model.specs.Record.{Record-defs, Entry}
-use Rattle.model.specs.Query.{Query-defs, Answered}
+use Rattle.model.specs.Query.{Query-defs}
 use Rattle.model.specs.Consolidate.{Consolidate-defs}
-use Rattle.model.specs.Store.{Store-defs, Call, Reply, Done, call, after, recordCall, batchCall, queryCall, autoCall, consolidateCall, refused, done, wrote, read}
+use Rattle.model.specs.Store.{Store-defs, Call, Done, call, recordCall, batchCall, queryCall, autoCall, consolidateCall, openCall, done, Shown, refusal, writes, points, shown}
 
 -- ---- plans, samples, stores
 
@@ -67,19 +67,10 @@ pub data Question : Type 0 where
   check : List Row → Question
   -- calls on a fresh store: flags and marks at the end, and the last reply
   story : List Row → List Call → Question
-  -- the same, with an opening before the last of the calls, which is given apart
-  reopened : List Row → List Call → Call → Question
   -- whether a ring with these ends covers the range from start up to end in full, and whether the answer may be incomplete
   coverage : (oldest newest start end : ℕ) → Question
   -- what a function makes of a window's values
   window : ConsolidationFn → List ℕ → Question
-
--- a reply, a query's with the points that its reader hands out
-pub data Shown : Type 0 where
-  refusal : ℕ → Shown
-  accepted : Shown
-  writes : ℕ → Shown
-  points : (tier : ℕ) (oldest newest : End) (start end : ℕ) (incomplete : Bool) → List Point → Shown
 
 pub data Result : Type 0 where
   numbers : List ℕ → Result
@@ -87,12 +78,6 @@ pub data Result : Type 0 where
   covered : (full incomplete : Bool) → Result
   value : ℕ → Result
   empty nothingFinite : Result
-
-unfoldable pub shown : Reply → Shown
-shown (refused n) = refusal n
-shown done = accepted
-shown (wrote k) = writes k
-shown (read a) = points (a .tier) (a .oldest) (a .newest) (a .start) (a .end) (a .incomplete) (pointsOf (a .reader))
 
 unfoldable pub columns : ℕ → ℕ → ℕ → ℕ → List ℕ
 columns n m c zero = []
@@ -117,7 +102,6 @@ result (layout rs) =
     numbers (map rowSlots rs ++ map (λ r. r .offset) (placedRows (rowPlace (length rs)) rs) ++ imageLength (plan rs) ∷ [])
 result (check rs) = numbers (planCheck (plan rs) ∷ [])
 result (story rs cs) = shownOn (lastCall (record { reply = done; lent = fresh rs }) cs)
-result (reopened rs cs c) = shownOn (call (opening (after (fresh rs) cs)) c)
 result (coverage o n start end) = covered (full (At o) (At n) start end) (incomplete (At o) (At n) start end)
 result (window f vs) = let hs = map heldValue vs in resultOf (answerOf f (seen hs) (finites hs))
 
@@ -203,13 +187,17 @@ cases =
     ∷ (story two (rec 30 1 ∷ rec 40 2 ∷ rec 50 6 ∷ rec 60 5 ∷ consolidateCall ∷ []) gives last (false ∷ false ∷ []) (60 ∷ 0 ∷ []) (writes 2))
     -- K
     ∷ (story two (rec 10 1 ∷ consolidateCall ∷ []) gives last (false ∷ false ∷ []) (0 ∷ 0 ∷ []) (refusal 13))
-    -- L
-    ∷ (reopened (ring10 10) (rec 50 1 ∷ rec 60 2 ∷ rec 70 3 ∷ rec 80 4 ∷ rec 90 5 ∷ rec 100 6 ∷ rec 110 7 ∷ []) (everything 0)
-    gives last (false ∷ []) (0 ∷ []) (points 0 (At 100) (At 110) 0 end64 true (at 100 6 ∷ at 110 7 ∷ [])))
+    -- L, with the request 2026-02: a stamp in any slot above the cursor tells of the wrap, whatever flags opening is handed. In document 01 the reading
+    -- after it gave 100 and 110 only
+    ∷ (story (ring10 10) (rec 50 1 ∷ rec 60 2 ∷ rec 70 3 ∷ rec 80 4 ∷ rec 90 5 ∷ rec 100 6 ∷ rec 110 7 ∷ openCall (replicate 32 false) ∷ everything 0 ∷ [])
+    gives last (true ∷ []) (0 ∷ []) (points 0 (At 50) (At 110) 0 end64 true (at 50 1 ∷ at 60 2 ∷ at 70 3 ∷ at 80 4 ∷ at 90 5 ∷ at 100 6 ∷ at 110 7 ∷ [])))
+    -- beside L: slots up to the cursor do not count. Document 01's rule took slot 0 for the one after the last, and set the flag; the points are the same
+    ∷ (story (ring10 4) (rec 40 1 ∷ rec 50 2 ∷ rec 60 3 ∷ rec 70 4 ∷ openCall (replicate 32 true) ∷ everything 0 ∷ [])
+    gives last (false ∷ []) (0 ∷ []) (points 0 (At 40) (At 70) 0 end64 true (at 40 1 ∷ at 50 2 ∷ at 60 3 ∷ at 70 4 ∷ [])))
     ∷ []
 
 unfoldable pub Cases-defs : Unit {0}
-unfolding Bytes-defs Words-defs Layout-defs Image-defs Ring-defs Read-defs Window-defs Lent-defs Record-defs Query-defs Consolidate-defs Store-defs tierOf tier planOf plan num infinity fresh shown columns lastCall resultOf shownOn result _gives_ seconds three ring10 two rec end64 everything at ofBits toBits ofInt add div lt
+unfolding Bytes-defs Words-defs Layout-defs Image-defs Ring-defs Read-defs Window-defs Lent-defs Record-defs Query-defs Consolidate-defs Store-defs tierOf tier planOf plan num infinity fresh columns lastCall resultOf shownOn result _gives_ seconds three ring10 two rec end64 everything at ofBits toBits ofInt add div lt
 Cases-defs = tt
 
 -- a row holds: what the definitions give is what it says
@@ -219,4 +207,4 @@ Holds (c ∷ cs) = (result (c .ask) ≡ c .reply) × Holds cs
 
 pub every-case : Holds cases
 unfolding Cases-defs cases
-every-case = (refl, (refl, (refl, (refl, (refl, (refl, (refl, (refl, (refl, (refl, (refl, (refl, (refl, (refl, (refl, (refl, (refl, (refl, (refl, (refl, (refl, (refl, tt))))))))))))))))))))))
+every-case = (refl, (refl, (refl, (refl, (refl, (refl, (refl, (refl, (refl, (refl, (refl, (refl, (refl, (refl, (refl, (refl, (refl, (refl, (refl, (refl, (refl, (refl, (refl, tt)))))))))))))))))))))))

@@ -1,6 +1,6 @@
--- One ring, a slab with its wrap flag: the fields, a write, the reading order, the ends, the flag at opening (document 01, "Record", "Query" and
--- "The slab's bytes"). Assumes nothing.
-use Prim.Native.Nat.{ℕ, zero, suc, _+_, _*_, _/_, _%_, _^_}
+-- One ring, a slab with its wrap flag: the fields, a write, the reading order, the ends (document 01, "Record", "Query" and "The slab's bytes"), the flag at
+-- opening (request 2026-02). Assumes nothing.
+use Prim.Native.Nat.{ℕ, zero, suc, _+_, _-_, _*_, _/_, _%_, _^_}
 use mathlib.Core.Bool.{Bool, true, false, not, _&&_, _||_, cond}
 use mathlib.Core.List.{List, [], _∷_}
 use lib.Dec.{leb, ltb, eqb}
@@ -123,13 +123,18 @@ firstStamp s (i ∷ is) = orStamp (stamp s i) (firstStamp s is)
 unfoldable pub oldest : Ring → End
 oldest r = endOf (firstStamp (r .slab) (order r))
 
--- ---- the flag that opening works out, as `RingBuffer::new` sets it
+-- ---- the flag that opening works out
 
+-- one of the k slots from slot i on has a nonzero stamp
+unfoldable pub anyStamp : List ℕ → ℕ → ℕ → Bool
+anyStamp s i zero = false
+anyStamp s i (suc k) = not (eqb (stamp s i) 0) || anyStamp s (suc i) k
+
+-- some slot numbered above the cursor has one (in document 01 the slot after the cursor alone counted)
 unfoldable pub wrapFlag : List ℕ → Bool
-wrapFlag s =
-    cond (eqb (cursor s) 0) (ltb 1 (slots s) && not (eqb (stamp s 1) 0)) (not (eqb (stamp s (suc (cursor s) % slots s)) 0))
+wrapFlag s = anyStamp s (suc (cursor s)) (slots s - suc (cursor s))
 
 -- names every definition of this module, for a proof by computation: `unfolding Ring-defs`
 unfoldable pub Ring-defs : Unit {0}
-unfolding slots series interval cursor stampAt cellAt stamp cell isInfinite isNaN slotOf putCells moveCursor flagAfter write walk isEmpty firstPlace order endOf newest orStamp firstStamp oldest wrapFlag
+unfolding slots series interval cursor stampAt cellAt stamp cell isInfinite isNaN slotOf putCells moveCursor flagAfter write walk isEmpty firstPlace order endOf newest orStamp firstStamp oldest anyStamp wrapFlag
 Ring-defs = tt

@@ -1,14 +1,19 @@
--- One call: what it answers and what it leaves lent; and a list of them (document 01, "Words of the third demand"). Creation and opening stand beside, in
--- Lent. Assumes nothing.
+-- One call: what it answers and what it leaves lent; and a list of them (document 01, "Words of the third demand", and request 2026-02, which lets openings
+-- stand in it). Creation stands beside, in Lent. Assumes nothing.
 use Prim.Native.Nat.{ℕ, zero, suc}
+use mathlib.Core.Bool.{Bool}
 use mathlib.Core.List.{List, [], _∷_}
 use Rattle.model.specs.declared.Outcome.{Outcome}
 use Rattle.model.specs.declared.Outcome.the-variants as O
 use Rattle.model.specs.declared.Consolidated.{Consolidated}
 use Rattle.model.specs.declared.Consolidated.the-variants as C
 use Rattle.model.specs.declared.Queried.{Queried}
+use Rattle.model.specs.declared.End.{End}
+use Rattle.model.specs.declared.Point.{Point}
 use Rattle.model.specs.Words.{numberOf}
-use Rattle.model.specs.Lent.{Lent}
+use Rattle.model.specs.Image.{openCheck}
+use Rattle.model.specs.Read.{pointsOf}
+use Rattle.model.specs.Lent.{Lent, opening}
 use Rattle.model.specs.Record.{Entry, recordCheck, recordOn, batchCheck, batchOn}
 use Rattle.model.specs.Query.{Answered, QueryReply, found, notFound, query, queryAuto, repliedBy}
 use Rattle.model.specs.Consolidate.{Run, run}
@@ -19,6 +24,8 @@ pub data Call : Type 0 where
   queryCall : (schema column tier start end : ℕ) → Call
   autoCall : (schema column start end : ℕ) → Call
   consolidateCall : Call
+  -- opening, handed the image as left and these flags, whatever they are
+  openCall : (handed : List Bool) → Call
 
 pub data Reply : Type 0 where
   refused : ℕ → Reply
@@ -53,6 +60,7 @@ call l (batchCall es t) = let n = batchCheck l es t in record { reply = doneOr n
 call l (queryCall k c j start end) = record { reply = readOr (query l k c j start end); lent = l }
 call l (autoCall k c start end) = record { reply = readOr (queryAuto l k c start end); lent = l }
 call l consolidateCall = finished (run l)
+call l (openCall fs) = record { reply = doneOr (openCheck (l .image)); lent = opening (record { image = l .image; flags = fs }) }
 
 -- what a list of calls leaves, and what they reply
 unfoldable pub after : Lent → List Call → Lent
@@ -62,6 +70,20 @@ after l (c ∷ cs) = after (call l c .lent) cs
 unfoldable pub replies : Lent → List Call → List Reply
 replies l [] = []
 replies l (c ∷ cs) = let d = call l c in d .reply ∷ replies (d .lent) cs
+
+-- ---- what a caller sees of a reply: of an answer, in its reader's stead, the points that the reader hands out up to its end
+
+pub data Shown : Type 0 where
+  refusal : ℕ → Shown
+  accepted : Shown
+  writes : ℕ → Shown
+  points : (tier : ℕ) (oldest newest : End) (start end : ℕ) (incomplete : Bool) → List Point → Shown
+
+unfoldable pub shown : Reply → Shown
+shown (refused n) = refusal n
+shown done = accepted
+shown (wrote k) = writes k
+shown (read a) = points (a .tier) (a .oldest) (a .newest) (a .start) (a .end) (a .incomplete) (pointsOf (a .reader))
 
 -- ---- the code's answers as replies, so that a promise says `.. ≡ call .. .reply`
 
@@ -79,5 +101,5 @@ queriedReply s q = readOr (repliedBy s q)
 
 -- names every definition of this module, for a proof by computation: `unfolding Store-defs`
 unfoldable pub Store-defs : Unit {0}
-unfolding doneOr wroteOr readOr finished call after replies outcomeReply consolidatedReply queriedReply
+unfolding doneOr wroteOr readOr finished call after replies shown outcomeReply consolidatedReply queriedReply
 Store-defs = tt

@@ -1,19 +1,17 @@
 -- What opening leaves, by the way that its check went; the flags of the rows one by one. Assumes nothing.
-use Prim.Native.Nat.{ℕ, zero, suc, _+_, _*_, _-_, _%_, _≤_, _<_}
+use Prim.Native.Nat.{ℕ, zero, suc, _+_, _*_, _-_, _≤_, _<_}
 use native.Mathlib.Nat.{sub-zero}
 use native.Mathlib.Numerals.{add-one}
 use native.Mathlib.Omega.{arith}
-use mathlib.Core.Path.{_≡_, refl, sym, ap, _∙_}
-use mathlib.Core.Bool.{Bool, true, false, not}
+use mathlib.Core.Path.{_≡_, refl, ap, _∙_}
+use mathlib.Core.Bool.{Bool}
 use mathlib.Core.List.{List, [], _∷_, _++_}
 use lib.ListN.{length, take, drop, set}
 use lib.Seq.{sets}
-use lib.Dec.{eqb}
-use borrow.Author.Tests.{eq-eqb, ne-eqb, lt-ltb, le-ltb}
 use Rattle.model.specs.declared.Row.{Row}
 use Rattle.model.specs.Bytes.{get}
-use Rattle.model.specs.Image.{rowAt, rowsFrom, rows, rowCount, rowSlots, rowPlace, slabOf, openCheck}
-use Rattle.model.specs.Ring.{slots, cursor, stamp, wrapFlag}
+use Rattle.model.specs.Image.{rowAt, rowsFrom, rows, rowCount, rowSlots, rowPlace, openCheck}
+use Rattle.model.specs.Ring.{wrapFlag}
 use Rattle.model.specs.Lent.{Lent, wrapFlags, openOn, opening}
 use Rattle.ring.specs.Parts.{Sized, sized}
 use Rattle.frame.specs.Rows.{length-rowsFrom}
@@ -21,21 +19,6 @@ use Rattle.frame.specs.Good.{Good, good-open, slab-sound, inside-slice}
 use Rattle.rows.specs.Rows.{rowsTo, rows-all, rows-step, rows-end}
 use Rattle.image.proofs.Laws.{handed as slab-is}
 use Rattle.image.specs.Flags.{front}
-
--- ---- one slab
-
-module _ (s : List ℕ) (n m : ℕ) (h : Sized s n m) where
-  pub flag-moved : {c : ℕ} → c ≡ cursor s → (c ≡ 0 → ⊥) → wrapFlag s ≡ not (eqb (stamp s (suc c % n)) 0)
-  unfolding wrapFlag
-  flag-moved e f = rw (← e, ne-eqb _ _ f, h .slots-is)
-
-  pub flag-one : {c : ℕ} → c ≡ cursor s → c ≡ 0 → n ≤ 1 → wrapFlag s ≡ false
-  unfolding wrapFlag
-  flag-one e f l = rw (← e, eq-eqb _ _ f, h .slots-is, le-ltb 1 n l)
-
-  pub flag-start : {c : ℕ} → c ≡ cursor s → c ≡ 0 → 1 < n → wrapFlag s ≡ not (eqb (stamp s 1) 0)
-  unfolding wrapFlag
-  flag-start e f l = rw (← e, eq-eqb _ _ f, h .slots-is, lt-ltb 1 n l)
 
 -- ---- the rows of an image in good order
 

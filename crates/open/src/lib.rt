@@ -1,12 +1,14 @@
-// Opening by value: the image's checks, then the first R flags worked out as `RingBuffer::new` sets them. Later flags stay; a refusal changes nothing.
+// Opening by value: the image's checks, then the first R flags worked out from the stamps above each cursor. Later flags stay; a refusal changes nothing.
 ghost use mathlib.Core.Path.{_≡_};
+ghost use mathlib.Core.Bool.{not};
 ghost use mathlib.Core.List.{_++_};
-ghost use Prim.Native.Nat.{_+_, _*_, _≤_};
+ghost use Prim.Native.Nat.{_+_, _≤_};
 ghost use lib.ListN.{drop};
+ghost use lib.Dec.{eqb};
 ghost use Rattle.model.specs.Words.{outcomeNo};
 ghost use Rattle.model.specs.Bytes.{get};
 ghost use Rattle.model.specs.Image.{openCheck};
-ghost use Rattle.model.specs.Ring.{wrapFlag};
+ghost use Rattle.model.specs.Ring.{anyStamp, wrapFlag};
 ghost use Rattle.model.specs.Lent.{wrapFlags, opening};
 ghost use Rattle.ring.specs.Parts.{Sized};
 ghost use Rattle.rows.specs.Rows.{rowsTo};
@@ -18,22 +20,67 @@ pub struct Opened {
     pub flags: model::Flags,
 }
 
-// The flag of a slab with n slots and m series.
+// The stamps of four slots joined by `|`: 0 where each of them is 0.
+fn four_joined(slab: &[u8], n: usize, m: usize, slot: usize) -> u64
+    requires { ⌜ Sized (now slab) n m ⌝ }
+    requires { ⌜ slot + 4 ≤ n ⌝ }
+    ensures { λ r. ⌜ not (eqb r 0) ≡ anyStamp (now (slab .entry)) slot 4 ⌝ }
+{
+    let t0 = ring::stamp_of(slab, n, m, slot);
+    let t1 = ring::stamp_of(slab, n, m, slot + 1);
+    let t2 = ring::stamp_of(slab, n, m, slot + 2);
+    let t3 = ring::stamp_of(slab, n, m, slot + 3);
+    t0 | t1 | t2 | t3
+}
+
+// One of some slots from `first` on has a nonzero stamp: a slot at a time.
+fn any_single(slab: &[u8], n: usize, m: usize, first: usize, count: usize) -> bool
+    requires { ⌜ Sized (now slab) n m ⌝ }
+    requires { ⌜ first + count ≤ n ⌝ }
+    ensures { λ r. ⌜ r ≡ anyStamp (now (slab .entry)) first count ⌝ }
+{
+    let mut slot = first;
+    let mut left = count;
+    while 0 < left {
+        let t = ring::stamp_of(slab, n, m, slot);
+        if t != 0 {
+            return true;
+        }
+        slot += 1;
+        left -= 1;
+    }
+    false
+}
+
+// The same, eight slots at a time, and the rest one by one: two instructions a slot in place of five.
+fn any_stamp(slab: &[u8], n: usize, m: usize, first: usize, count: usize) -> bool
+    requires { ⌜ Sized (now slab) n m ⌝ }
+    requires { ⌜ first + count ≤ n ⌝ }
+    ensures { λ r. ⌜ r ≡ anyStamp (now (slab .entry)) first count ⌝ }
+{
+    let mut slot = first;
+    let mut left = count;
+    while 8 <= left {
+        let low = four_joined(slab, n, m, slot);
+        let high = four_joined(slab, n, m, slot + 4);
+        let eight = low | high;
+        if eight != 0 {
+            return true;
+        }
+        slot += 8;
+        left -= 8;
+    }
+    any_single(slab, n, m, slot, left)
+}
+
+// The flag of a slab with n slots and m series: some slot above the cursor has a nonzero stamp.
 pub fn wrap_flag(slab: &[u8], n: usize, m: usize) -> bool
     requires { ⌜ Sized (now slab) n m ⌝ }
     ensures { λ r. ⌜ r ≡ wrapFlag (now (slab .entry)) ⌝ }
 {
     let cursor = ring::cursor_of(slab, n, m);
-    if cursor != 0 {
-        let next = ring::next_slot(n, cursor);
-        let after = ring::stamp_of(slab, n, m, next);
-        return after != 0;
-    }
-    if n <= 1 {
-        return false;
-    }
-    let second = ring::stamp_of(slab, n, m, 1);
-    second != 0
+    let first = cursor + 1;
+    any_stamp(slab, n, m, first, n - first)
 }
 
 // The first n flags worked out.

@@ -139,7 +139,7 @@ module _ (q : Job) (w t v : ℕ) where
   unfolding held
   this-window a b e = rw (yes-le (q .start) t a, yes-lt t (q .end) b, e, yes-eq w)
 
-  fresh-cell : v ≡ freshValue → held q w t v ≡ Outside
+  pub fresh-cell : v ≡ freshValue → held q w t v ≡ Outside
   unfolding held heldValue isNaN freshValue
   fresh-cell e = rw e (go (leb (q .start) t) (ltb t (q .end)) (eqb (windowOf (q .long) t) w))
     where

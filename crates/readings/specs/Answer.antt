@@ -7,17 +7,40 @@ use mathlib.Core.Bool.{true, false}
 use mathlib.Core.List.{[], _∷_}
 use lib.Dec.{ltb}
 use lib.ListN.{length}
-use Rattle.model.specs.Image.{unless, schemas, rows, tiersOf, openCheck}
+use Rattle.model.specs.Image.{unless, rows, tiersOf, openCheck}
 use Rattle.model.specs.Read.{full, pointsOf}
 use Rattle.model.specs.Lent.{Lent, ring, row, rowNo, tiers, firstRow}
 use Rattle.model.specs.Record.{seriesOf, handleOk}
 use Rattle.model.specs.Query.{Answered, found, queryCheck, autoCheck, choose, answered, queryOn, query, queryAuto}
-use Rattle.laws.specs.Tests.{and-left, and-right, lt-is}
+use Rattle.laws.specs.Tests.{lt-is}
 use Rattle.rings.specs.Points.{points, reader-points}
 use Rattle.frame.specs.Checks.{first-zero, unless-zero}
+use Rattle.frame.specs.Recorded.{handle-in}
 use Rattle.frame.specs.Good.{good-open, slab-sound}
 use Rattle.frame.specs.Tiers.{tier-row, some-tier}
 use Rattle.readings.specs.Choice.{covers, choice-in, some-covers, none-finer}
+
+-- ---- what a query says by not being refused
+
+pub query-zero : (l : Lent) (k c j start end : ℕ) → queryCheck l k c j start end ≡ 0 → (openCheck (l .image) ≡ 0) × (handleOk l k c ≡ true) × (j < length (tiers l k))
+unfolding queryCheck
+query-zero l k c j start end e =
+    let x = unless (ltb j (length (tiers l k))) 14 in
+    let y = unless (ltb start end) 15 in
+    let p = first-zero (openCheck (l .image)) (unless (handleOk l k c) 11 ∷ x ∷ y ∷ []) e in
+    let q = first-zero (unless (handleOk l k c) 11) (x ∷ y ∷ []) (p .1) in
+    let t = first-zero x (y ∷ []) (q .1) in
+    (p .0, unless-zero (handleOk l k c) 10 (q .0), lt-is j (length (tiers l k)) (unless-zero (ltb j (length (tiers l k))) 13 (t .0)))
+
+pub auto-zero : (l : Lent) (k c start end : ℕ) → autoCheck l k c start end ≡ 0 → (openCheck (l .image) ≡ 0) × (handleOk l k c ≡ true)
+unfolding autoCheck
+auto-zero l k c start end e =
+    let y = unless (ltb start end) 15 in
+    let p = first-zero (openCheck (l .image)) (unless (handleOk l k c) 11 ∷ y ∷ []) e in
+    let q = first-zero (unless (handleOk l k c) 11) (y ∷ []) (p .1) in
+    (p .0, unless-zero (handleOk l k c) 10 (q .0))
+
+-- ---- what it answers
 
 module _ (l : Lent) (k c start end : ℕ) where
   -- an answer is that of the tier's row, and the check has passed
@@ -27,13 +50,6 @@ module _ (l : Lent) (k c start end : ℕ) where
   found-is (suc n) j e = (cc, cc)
 
   module _ (h : openCheck (l .image) ≡ 0) (ok : handleOk l k c ≡ true) where
-    bounds : (k < schemas (l .image)) × (c < seriesOf (tiersOf k (rows (l .image))))
-    unfolding handleOk tiers
-    bounds =
-        let x = ltb k (schemas (l .image)) in
-        let y = ltb c (seriesOf (tiersOf k (rows (l .image)))) in
-        (lt-is k (schemas (l .image)) (and-left x y ok), lt-is c (seriesOf (tiersOf k (rows (l .image)))) (and-right x y ok))
-
     -- the points of tier j's reader
     tier-points : (j : ℕ) → j < length (tiers l k) → pointsOf (answered l (rowNo l k j) c j start end .reader) ≡ points (ring l (rowNo l k j)) c start end
     unfolding answered rowNo tiers ring row
@@ -41,7 +57,8 @@ module _ (l : Lent) (k c start end : ℕ) where
         let g = good-open (l .image) h in
         let t = tier-row (l .image) (g .shape-is) k j p in
         let i = firstRow k (rows (l .image)) + j in
-        reader-points (ring l i) (slab-sound (l .image) g i (t .there)) c start end (rw (t .series-is) at (bounds .1))
+        let in-schema : c < seriesOf (tiersOf k (rows (l .image))) = handle-in l k c ok .1 in
+        reader-points (ring l i) (slab-sound (l .image) g i (t .there)) c start end (rw (t .series-is) at in-schema)
 
   -- ---- query
 
@@ -51,15 +68,9 @@ module _ (l : Lent) (k c start end : ℕ) where
     query-found = found-is (queryCheck l k c j start end) j e
 
     pub query-points : pointsOf (a .reader) ≡ points (ring l (rowNo l k j)) c start end
-    unfolding queryCheck
     query-points =
-        let x = unless (ltb j (length (tiers l k))) 14 in
-        let y = unless (ltb start end) 15 in
-        let p = first-zero (openCheck (l .image)) (unless (handleOk l k c) 11 ∷ x ∷ y ∷ []) (query-found .0) in
-        let q = first-zero (unless (handleOk l k c) 11) (x ∷ y ∷ []) (p .1) in
-        let t = first-zero x (y ∷ []) (q .1) in
-        ap (λ (b : Answered). pointsOf (b .reader)) (query-found .1)
-        ∙ tier-points (p .0) (unless-zero (handleOk l k c) 10 (q .0)) j (lt-is j (length (tiers l k)) (unless-zero (ltb j (length (tiers l k))) 13 (t .0)))
+        let z = query-zero l k c j start end (query-found .0) in
+        ap (λ (b : Answered). pointsOf (b .reader)) (query-found .1) ∙ tier-points (z .0) (z .1) j (z .2)
 
   -- ---- query_auto
 
@@ -73,18 +84,13 @@ module _ (l : Lent) (k c start end : ℕ) where
     auto-tier = ap (λ (b : Answered). b .tier) (auto-found .1)
 
     passed : (openCheck (l .image) ≡ 0) × (handleOk l k c ≡ true)
-    unfolding autoCheck
-    passed =
-        let y = unless (ltb start end) 15 in
-        let p = first-zero (openCheck (l .image)) (unless (handleOk l k c) 11 ∷ y ∷ []) (auto-found .0) in
-        let q = first-zero (unless (handleOk l k c) 11) (y ∷ []) (p .1) in
-        (p .0, unless-zero (handleOk l k c) 10 (q .0))
+    passed = auto-zero l k c start end (auto-found .0)
 
     -- the schema has a tier, so the chosen one is there
     pub auto-there : a .tier < length (tiers l k)
     auto-there =
         let g = good-open (l .image) (passed .0) in
-        let some : 0 < length (tiers l k) = unfold tiers in (some-tier (l .image) (g .shape-is) (g .layout-is) k (bounds (passed .0) (passed .1) .0)) in
+        let some : 0 < length (tiers l k) = unfold tiers in (some-tier (l .image) (g .shape-is) (g .layout-is) k (handle-in l k c (passed .1) .0)) in
         rw auto-tier (choice-in l k start end some)
 
     pub auto-points : pointsOf (a .reader) ≡ points (ring l (rowNo l k (a .tier))) c start end

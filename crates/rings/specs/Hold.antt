@@ -1,8 +1,9 @@
 -- What a ring holds after writes without gaps: their numbers never fall and grow by at most one, from a first number a on. The cursor is the newest
 -- number's slot, the slots of the newest numbers hold their stamps, every other slot is fresh, and the flag tells whether the reading goes round. For any
--- number of slots, one among them, and any first number. From it, the order of reading: the held numbers, ascending. Assumes nothing.
+-- number of slots, one among them, and any first number. From it, the order of reading: the held numbers, ascending. So it is with the flag that opening works
+-- out, too. Assumes nothing.
 use Prim.Native.Nat.{ℕ, zero, suc, _+_, _-_, _*_, _/_, _%_, _^_, _≤_, _<_, max}
-use native.Mathlib.Nat.{suc-mod, mod-lt, mod-le, mod-add-div', mod-eq-sub-mod, mul-mod-left, div-eq-of-lt-le, div-mul-le-self, mul-pos, mul-le-mul-right}
+use native.Mathlib.Nat.{suc-mod, mod-lt, mod-le, mod-add-div', mod-eq-sub-mod, mul-mod-left, div-eq-of-lt-le, div-mul-le-self, mul-pos, mod-eq-of-lt, mul-add-mod-self-right}
 use native.Mathlib.Omega.{arith}
 use native.Mathlib.Decide.{decLt}
 use mathlib.Core.Path.{_≡_, refl, sym, ap, _∙_}
@@ -10,11 +11,12 @@ use mathlib.Core.Logic.{_≢_}
 use mathlib.Core.Bool.{Bool, true, false, not, _||_}
 use mathlib.Core.List.{List, []}
 use lib.Dec.{T, ltb}
-use Rattle.model.specs.Ring.{Ring, slots, cursor, stamp, isEmpty, firstPlace, order, walk}
+use Rattle.model.specs.Ring.{Ring, slots, cursor, stamp, isEmpty, firstPlace, order, walk, anyStamp, wrapFlag}
 use Rattle.laws.specs.Tests.{yes-lt, no-lt, no-eq}
 use Rattle.rings.specs.Numbers.{slotsOf, walk-is, next-mod, next-zero}
 use Rattle.rings.specs.Sound.{Sound, some-slots}
 use Rattle.rings.specs.Column.{Keeps, keeps-start}
+use Rattle.rings.specs.Above.{any-none, any-some}
 
 -- a sound slab with a nonzero interval, whose stamps pass consolidation's check
 pub record Slab (s : List ℕ) (n m d : ℕ) : Type 0 where
@@ -186,30 +188,64 @@ reads {r} {n} {m} {d} {a} {e = suc k} h z = go (r .wrapped) refl
           back = near;
         }
 
--- ---- where the flag is not set, no slot above the cursor holds a stamp
+-- ---- the flag that opening works out does as well: it follows from the cursor and the stamps alone, whatever the flag was
 
-pub above-fresh : {r : Ring} {n m d a k : ℕ} → State r n m d a (suc k) → r .wrapped ≡ false → (i : ℕ) → cursor (r .slab) < i → i < n → stamp (r .slab) i ≡ 0
-unfolding newestSlot
-above-fresh {r} {n} {m} {d} {a} {k} h w i lo hi =
-    h .stamps .none i hi (λ q x y e. clash (a + k) ((a + k) / n) q (q / n) (rw (h .cursor-is) at lo) e (mod-add-div' (a + k) n) (mod-add-div' q n) x (omega arith) near)
-  where
-    u : a + suc k - 1 ≡ a + k
-    u = omega arith
+module _ {s : List ℕ} {n m d : ℕ} (a : ℕ) (h : Slab s n m d) where
+  -- the cursor and the stamps after the e numbers from a on
+  abbrev Has : ℕ → Type 0
+  Has e = (cursor s ≡ newestSlot n a e) × Keeps 0 (stamp s) n a e (λ (q : ℕ). q * d)
 
-    near : (a + k) / n * n ≤ max a (suc (a + k) - n)
-    near = let v : a + suc k ≡ suc (a + k) = omega arith in rw (u, v) at (h .flag .else-near (rw w tt))
+  -- a stamp above the cursor is a number's of the lap before
+  some-above : (e : ℕ) → Has e → (i : ℕ) → cursor s < i → i < n → stamp s i ≢ 0 → n ≤ a + e
+  unfolding newestSlot
+  some-above zero g i lo hi ne = absurd (ne (g .1 .none i hi (λ q x y. absurd (omega arith))))
+  some-above (suc k) g i lo hi ne = go (decLt (a + k) n)
+    where
+      first-lap : a + k < n → (q : ℕ) → a ≤ q → q < a + suc k → q % n ≢ i
+      first-lap x q y z e =
+          let f : (a + k) % n ≡ a + k = mod-eq-of-lt x in
+          let j : q % n ≡ q = mod-eq-of-lt (omega arith) in
+          omega (arith, g .0)
 
-    clash : (b x q y : ℕ) → b % n < i → q % n ≡ i → b % n + x * n ≡ b → q % n + y * n ≡ q → a ≤ q → q ≤ b → x * n ≤ max a (suc b - n) → ⊥
-    clash b x q y l e f g p s near = go (decLt y x)
-      where
-        go : Dec (y < x) → ⊥
-        go (yes c) = omega (arith, mul-le-mul-right n c)
-        go (no c) = let c' : x ≤ y = omega arith in omega (arith, mul-le-mul-right n c')
+      go : Dec (a + k < n) → n ≤ a + suc k
+      go (yes x) = absurd (ne (g .1 .none i hi (first-lap x)))
+      go (no x) = omega arith
 
--- so a stamp above the cursor tells of the flag. With one slot there is no slot above it, and the flag stays as it is
-pub above-wrapped : {r : Ring} {n m d a k : ℕ} → State r n m d a (suc k) → (i : ℕ) → cursor (r .slab) < i → i < n → stamp (r .slab) i ≢ 0 → r .wrapped ≡ true
-above-wrapped {r} h i lo hi ne = go (r .wrapped) refl
-  where
-    go : (w : Bool) → r .wrapped ≡ w → r .wrapped ≡ true
-    go true e = e
-    go false e = absurd (ne (above-fresh h e i lo hi))
+  -- without one, the slots up to the cursor have every held number: the last number of the lap before would stand in the last slot
+  none-above : (e : ℕ) → Has e → ((i : ℕ) → cursor s < i → i < n → stamp s i ≡ 0) → (a + e - 1) / n * n ≤ max a (a + e - n)
+  unfolding newestSlot
+  none-above zero g f = omega (arith, div-mul-le-self (a + 0 - 1) n)
+  none-above (suc k) g f = let u : a + suc k - 1 ≡ a + k = omega arith in rw u (go ((a + k) / n) (mod-add-div' (a + k) n))
+    where
+      zn : 0 < n
+      zn = some-slots (h .sound)
+
+      slot : (x : ℕ) → (x * n + (n - 1)) % n ≡ n - 1
+      slot x = mul-add-mod-self-right x n (n - 1) ∙ mod-eq-of-lt (omega (arith, zn))
+
+      go : (x : ℕ) → (a + k) % n + x * n ≡ a + k → x * n ≤ max a (a + suc k - n)
+      go zero e = omega arith
+      go (suc x) e = last (decLt (max a (a + suc k - n)) (suc x * n))
+        where
+          last : Dec (max a (a + suc k - n) < suc x * n) → suc x * n ≤ max a (a + suc k - n)
+          last (no l) = omega arith
+          last (yes l) =
+              let t : stamp s (n - 1) ≡ (x * n + (n - 1)) * d = rw (slot x) at (g .1 .has (x * n + (n - 1)) (omega (arith, zn)) (omega (arith, zn)) (omega (arith, zn))) in
+              let p : 0 < (x * n + (n - 1)) * d = mul-pos (omega (arith, zn)) (h .long) in
+              absurd (omega (arith, f (n - 1) (omega (arith, zn, g .0)) (omega (arith, zn))))
+
+  flag-opened : (e : ℕ) → Has e → Flag n a e (wrapFlag s)
+  unfolding wrapFlag
+  flag-opened e g = rw (h .sound .slots-is) (go (anyStamp s (suc (cursor s)) (n - suc (cursor s))) refl)
+    where
+      go : (w : Bool) → anyStamp s (suc (cursor s)) (n - suc (cursor s)) ≡ w → Flag n a e w
+      go true f = let i = any-some s (suc (cursor s)) (n - suc (cursor s)) f in
+          record { wrapped-far = λ t. some-above e g (i .0) (i .1) (omega (arith, i .1, i .2)) (i .3); else-near = λ t. absurd t }
+      go false f = record {
+        wrapped-far = λ t. absurd t;
+        else-near = λ t. none-above e g (λ i lo hi. any-none s (suc (cursor s)) (n - suc (cursor s)) f i lo (omega arith));
+      }
+
+-- the ring as opening leaves it
+pub state-opened : {r : Ring} {n m d a e : ℕ} → State r n m d a e → State (record { slab = r .slab; wrapped = wrapFlag (r .slab) }) n m d a e
+state-opened {a = a} {e = e} h = record { slab-is = h .slab-is; cursor-is = h .cursor-is; stamps = h .stamps; flag = flag-opened a (h .slab-is) e (h .cursor-is, h .stamps) }

@@ -3,6 +3,7 @@ pub mod Write
 pub mod Sound
 pub mod Points
 pub mod Column
+pub mod Above
 pub mod Hold
 pub mod Step
 pub mod Read

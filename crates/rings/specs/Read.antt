@@ -81,7 +81,7 @@ module _ (s : List ℕ) (n c lo hi : ℕ) where
   unfolding isHanded
   out-stamp i e = rw e
 
-  out-fresh : (i : ℕ) → cell s c i ≡ freshValue → isHanded s c lo hi i ≡ false
+  pub out-fresh : (i : ℕ) → cell s c i ≡ freshValue → isHanded s c lo hi i ≡ false
   unfolding isHanded isNaN freshValue
   out-fresh i e = rw e (and-false (leb lo (stamp s i) && ltb (stamp s i) hi))
 

@@ -10,7 +10,7 @@ use Rattle.model.specs.Bytes.{get}
 use Rattle.model.specs.Layout.{slabLength, columnAt, columnBehind, stampsBehind}
 use Rattle.model.specs.Ring.{Ring, ColumnValue, slots, series, interval, cursor, slotOf, write}
 use Rattle.laws.specs.Slab.{Whole}
-use Rattle.rings.specs.Write.{Fit, Kept, kept, Wrote, wrote}
+use Rattle.rings.specs.Write.{Fit, Kept, kept, Elsewhere, elsewhere, Wrote, wrote}
 
 -- n slots, m series, interval d
 pub record Sound (s : List ℕ) (n m d : ℕ) : Type 0 where
@@ -70,6 +70,10 @@ module _ (r : Ring) (es : List ColumnValue) (t n m d : ℕ) (h : Sound (r .slab)
   -- the cursor after a write is the written slot
   pub cursor-write : cursor (write r es t .slab) ≡ t / d % n
   cursor-write = kept-by-write .cursor-is ∙ slot-is h t
+
+  pub elsewhere-sound : t < 2 ^ 64 → Elsewhere (r .slab) (t / d % n) t (write r es t .slab)
+  elsewhere-sound ht =
+      subst (λ (i : ℕ). Elsewhere (r .slab) i t (write r es t .slab)) (slot-is h t) (elsewhere r es t (as-long h) (rw (h .slots-is) (slot-in h t)) ht)
 
   pub wrote-sound : t < 2 ^ 64 → Fit m es → Wrote (r .slab) (t / d % n) t es (write r es t .slab)
   wrote-sound ht f =

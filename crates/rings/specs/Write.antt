@@ -58,15 +58,16 @@ stamps-high : (s : List ℕ) → 64 ≤ stampsAt (series s)
 unfolding stampsAt stampsBehind
 stamps-high s = omega arith
 
--- u is s but for its cells
-record CellsOnly (s u : List ℕ) : Type 0 where
+-- u is s but for cells of slot i
+record CellsOnly (s : List ℕ) (i : ℕ) (u : List ℕ) : Type 0 where
   length-is : length u ≡ length s
   front : (w p : ℕ) → p + w ≤ stampsAt (series s) → get w u p ≡ get w s p
   stamps : (j : ℕ) → j < slots s → stamp u j ≡ stamp s j
+  cell-other : i < slots s → (c j : ℕ) → j < slots s → j ≢ i → cell u c j ≡ cell s c j
 
-cells-only : (es : List ColumnValue) (s : List ℕ) (i : ℕ) → CellsOnly s (putCells s i es)
+cells-only : (es : List ColumnValue) (s : List ℕ) (i : ℕ) → CellsOnly s i (putCells s i es)
 unfolding putCells
-cells-only [] s i = record { length-is = refl; front = λ w p h. refl; stamps = λ j h. refl }
+cells-only [] s i = record { length-is = refl; front = λ w p h. refl; stamps = λ j h. refl; cell-other = λ hi c j hj ne. refl }
 cells-only (e ∷ es) s i =
     let c = e .column in
     let v = e .value in
@@ -79,6 +80,7 @@ cells-only (e ∷ es) s i =
       length-is = r .length-is ∙ length-put 8 s o v;
       front = λ w p h. r .front w p (rw m₁ h) ∙ get-put w 8 s p o v (before (omega (arith, stamps-first s c i)));
       stamps = λ j hj. r .stamps j (rw n₁ hj) ∙ stamp-put-cell s c i v j hj;
+      cell-other = λ hi d j hj ne. r .cell-other (rw n₁ hi) d j (rw n₁ hj) ne ∙ cell-put-cell s c i v d j hj hi (λ _. ne);
     }
 
 sets-same : (C D : ℕ → ℕ → ℕ) (i : ℕ) (es : List ColumnValue) (c j : ℕ) → C c j ≡ D c j → setCells C i es c j ≡ setCells D i es c j
@@ -162,6 +164,28 @@ kept r es t hl hi =
       cursor-is = cursor-same s₂ i (omega (arith, k .length-is, l₁)) (omega arith);
     })
 
+-- ---- whatever the values: the written slot's stamp, and every other slot
+
+pub record Elsewhere (s : List ℕ) (i t : ℕ) (u : List ℕ) : Type 0 where
+  pub stamp-is : stamp u i ≡ t
+  pub stamp-other : (j : ℕ) → j < slots s → j ≢ i → stamp u j ≡ stamp s j
+  pub cell-other : (c j : ℕ) → j < slots s → j ≢ i → cell u c j ≡ cell s c j
+
+pub elsewhere : (r : Ring) (es : List ColumnValue) (t : ℕ) → Whole (r .slab) → slotOf (r .slab) t < slots (r .slab) → t < 2 ^ 64
+    → Elsewhere (r .slab) (slotOf (r .slab) t) t (write r es t .slab)
+elsewhere r es t wh hi ht =
+    let s = r .slab in
+    let i = slotOf s t in
+    let s₁ = put 8 s (stampAt s i) t in
+    let n₁ : slots s₁ ≡ slots s = slots-put s (stampAt s i) t (stampAt-high s i) in
+    let k = cells-only es s₁ i in
+    let s₂ = putCells s₁ i es in
+    rw (write-is r es t) (record {
+      stamp-is = stamp-cursor s₂ i i ∙ k .stamps i (rw n₁ hi) ∙ stamp-same s i t (inside-stamp s i wh hi) ht;
+      stamp-other = λ j hj ne. stamp-cursor s₂ i j ∙ k .stamps j (rw n₁ hj) ∙ stamp-put-stamp s i t j ne;
+      cell-other = λ c j hj ne. cell-cursor s₂ i c j ∙ k .cell-other (rw n₁ hi) c j (rw n₁ hj) ne ∙ cell-put-stamp s i t c j hi;
+    })
+
 -- ---- and with 64-bit values that fit: the stamps and the cells
 
 pub record Wrote (s : List ℕ) (i t : ℕ) (es : List ColumnValue) (u : List ℕ) : Type 0 where
@@ -180,14 +204,13 @@ wrote r es t wh hn hi ht f =
     let n₁ : slots s₁ ≡ slots s = slots-put s o t (stampAt-high s i) in
     let m₁ : series s₁ ≡ series s = series-put s o t (stampAt-high s i) in
     let w₁ : Whole s₁ = length-put 8 s o t ∙ wh ∙ rw (n₁, m₁) refl in
-    let k = cells-only es s₁ i in
     let s₂ = putCells s₁ i es in
-    let ins : o + 8 ≤ length s = inside-stamp s i wh hi in
-    let far : 64 ≤ length s = omega (arith, stampAt-high s i) in
+    let k = elsewhere r es t wh hi ht in
+    let far : 64 ≤ length s = omega (arith, inside-stamp s i wh hi, stampAt-high s i) in
     record {
       rest = kept r es t far (omega arith);
-      stamp-is = rw (write-is r es t) (stamp-cursor s₂ i i ∙ k .stamps i (rw n₁ hi) ∙ stamp-same s i t ins ht);
-      stamp-other = λ j hj ne. rw (write-is r es t) (stamp-cursor s₂ i j ∙ k .stamps j (rw n₁ hj) ∙ stamp-put-stamp s i t j ne);
+      stamp-is = k .stamp-is;
+      stamp-other = k .stamp-other;
       cells = λ c j hj. rw (write-is r es t) (cell-cursor s₂ i c j ∙ cells-put es s₁ i w₁ (rw n₁ hi) (rw m₁ f) c j (rw n₁ hj)
           ∙ sets-same (cell s₁) (cell s) i es c j (cell-put-stamp s i t c j hi));
     }

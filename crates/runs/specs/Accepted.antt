@@ -1,53 +1,18 @@
--- What a recording says by being accepted: the image passes the checks, the handle is good, the stamp is not 0 and below 2^63. So in any list of calls every
--- sample's stamp is, and there is a sample only where the store's image passes the checks. Assumes nothing.
+-- An accepted recording's stamp is not 0 and below 2^63, and the image passes the checks. So in any list of calls every sample's stamp is, and there is a sample
+-- only where the store's image passes the checks. Assumes nothing.
 use Prim.Native.Nat.{ℕ, zero, suc, _^_, _<_}
 use native.Mathlib.Omega.{arith}
 use mathlib.Core.Path.{_≡_, refl}
-use mathlib.Core.Bool.{true, not}
 use mathlib.Core.List.{List, [], _∷_, _++_, map}
-use lib.Dec.{ltb, lit<}
-use Rattle.model.specs.Image.{unless, openCheck}
-use Rattle.model.specs.Ring.{isInfinite}
+use lib.Dec.{lit<}
+use Rattle.model.specs.Image.{openCheck}
 use Rattle.model.specs.Lent.{Lent}
-use Rattle.model.specs.Record.{Entry, handleOk, stampOk, recordCheck, everyEntry, batchCheck}
-use Rattle.model.specs.Store.{Call, recordCall, batchCall, queryCall, autoCall, consolidateCall, call}
+use Rattle.model.specs.Record.{Entry, recordCheck, batchCheck}
+use Rattle.model.specs.Store.{Call, recordCall, batchCall, queryCall, autoCall, consolidateCall, openCall, call}
 use Rattle.demand.specs.Demand.{Sample, took, ifAccepted, eventsOf, events, samplesIn, firstOf, lastOf}
-use Rattle.laws.specs.Tests.{and-left, and-right, lt-is}
-use Rattle.frame.specs.Checks.{first-zero, unless-zero}
+use Rattle.frame.specs.Recorded.{record-zero, batch-zero}
 use Rattle.frame.specs.Calls.{verdict-call}
 use Rattle.samples.specs.Lists.{samples-append}
-
-stamp-low : (t : ℕ) → stampOk t ≡ true → t < 2 ^ 63
-unfolding stampOk
-stamp-low t h = lt-is t (2 ^ 63) (and-right (ltb 0 t) (ltb t (2 ^ 63)) h)
-
-stamp-pos : (t : ℕ) → stampOk t ≡ true → 0 < t
-unfolding stampOk
-stamp-pos t h = lt-is 0 t (and-left (ltb 0 t) (ltb t (2 ^ 63)) h)
-
--- ---- the two checks
-
-pub record-zero : (l : Lent) (k c v t : ℕ) → recordCheck l k c v t ≡ 0 → (openCheck (l .image) ≡ 0) × (handleOk l k c ≡ true) × (t < 2 ^ 63) × (0 < t)
-unfolding recordCheck
-record-zero l k c v t h =
-    let p = first-zero (openCheck (l .image)) (unless (handleOk l k c) 11 ∷ unless (not (isInfinite v)) 12 ∷ unless (stampOk t) 13 ∷ []) h in
-    let q = first-zero (unless (handleOk l k c) 11) (unless (not (isInfinite v)) 12 ∷ unless (stampOk t) 13 ∷ []) (p .1) in
-    let r = first-zero (unless (not (isInfinite v)) 12) (unless (stampOk t) 13 ∷ []) (q .1) in
-    let s = first-zero (unless (stampOk t) 13) [] (r .1) in
-    let u = unless-zero (stampOk t) 12 (s .0) in
-    (p .0, unless-zero (handleOk l k c) 10 (q .0), stamp-low t u, stamp-pos t u)
-
-pub batch-zero : (l : Lent) (x : Entry) (xs : List Entry) (t : ℕ) → batchCheck l (x ∷ xs) t ≡ 0
-    → (openCheck (l .image) ≡ 0) × (everyEntry (λ x. handleOk l (x .schema) (x .column)) (x ∷ xs) ≡ true) × (t < 2 ^ 63) × (0 < t)
-unfolding batchCheck
-batch-zero l x xs t h =
-    let hs = everyEntry (λ x. handleOk l (x .schema) (x .column)) (x ∷ xs) in
-    let is = everyEntry (λ x. not (isInfinite (x .value))) (x ∷ xs) in
-    let p = first-zero (openCheck (l .image)) (unless hs 11 ∷ unless (stampOk t) 13 ∷ unless is 12 ∷ []) h in
-    let q = first-zero (unless hs 11) (unless (stampOk t) 13 ∷ unless is 12 ∷ []) (p .1) in
-    let r = first-zero (unless (stampOk t) 13) (unless is 12 ∷ []) (q .1) in
-    let u = unless-zero (stampOk t) 12 (r .0) in
-    (p .0, unless-zero hs 10 (q .0), stamp-low t u, stamp-pos t u)
 
 -- ---- the samples of a list of calls
 
@@ -85,6 +50,7 @@ accepted-call l (batchCall (x ∷ xs) t) = accepted-batch (openCheck (l .image))
 accepted-call l (queryCall k c j start end) = tt
 accepted-call l (autoCall k c start end) = tt
 accepted-call l consolidateCall = tt
+accepted-call l (openCall fs) = tt
 
 pub accepted-calls : (cs : List Call) (l : Lent) → Accepted (openCheck (l .image)) (samplesIn (events l cs))
 unfolding events

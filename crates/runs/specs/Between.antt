@@ -1,10 +1,10 @@
 -- The store between two calls, as the set-up has it: what it holds of the samples so far and of the last run, and that the events to come are on schedule.
--- It is what the induction over the calls keeps. Assumes nothing.
+-- It is what the induction over the calls keeps; an opening keeps it. Assumes nothing.
 use Prim.Native.Nat.{ℕ, suc, _*_, _≤_, _<_}
 use native.Mathlib.Omega.{arith}
 use native.Mathlib.Decide.{decLt}
-use mathlib.Core.Path.{_≡_}
-use mathlib.Core.Bool.{true}
+use mathlib.Core.Path.{_≡_, _∙_}
+use mathlib.Core.Bool.{Bool, true}
 use mathlib.Core.List.{List}
 use Rattle.model.specs.Ring.{cell}
 use Rattle.model.specs.Lent.{Lent, row, ring}
@@ -14,7 +14,7 @@ use Rattle.rings.specs.Hold.{State}
 use Rattle.samples.specs.Lists.{ofColumn, valueAt}
 use Rattle.samples.specs.Ticks.{Steady, Regular, Reached}
 use Rattle.samples.specs.Schedule.{touched, lastStamp}
-use Rattle.runs.specs.Setup.{Setup, tierCount, intervalOf, slotsOf, firstNo, Tier, markOf, Base}
+use Rattle.runs.specs.Setup.{Setup, tierCount, intervalOf, slotsOf, firstNo, Tier, markOf, Base, again, base-again, ring-again, mark-again, state-again, tier-again}
 
 -- the set-up is that of the samples xs
 pub record Fits (S : Setup) (xs : List Sample) : Type 0 where
@@ -48,6 +48,21 @@ column-in {S} {l} {ys} h c z = go (decLt c (S .columns))
     go : Dec (c < S .columns) → c < S .columns
     go (yes p) = p
     go (no p) = absurd (omega (arith, h .known c (omega arith)))
+
+-- so it is after an opening
+pub between-again : {S : Setup} {l : Lent} {ys : List Sample} {e f : ℕ} → Between S l ys e f → (fs : List Bool) → Between S (again l fs) ys e f
+between-again {S} {l} {ys} {e} {f} h fs = record {
+  base = base-again (h .base) fs;
+  state = state-again (h .base) fs 0 e (S .some) (h .state);
+  cols = rw (ring-again (h .base) fs 0 (S .some)) (h .cols);
+  tiers = λ j x y. tier-again (h .base) fs j f y (h .tiers j x y);
+  marks = λ j x. mark-again (h .base) fs j ∙ h .marks j x;
+  regular = h .regular;
+  reached = h .reached;
+  low = h .low;
+  high = h .high;
+  known = h .known;
+}
 
 -- such a store, where the events to come are on schedule
 pub record Next (S : Setup) (l : Lent) (ys : List Sample) (rest : List Event) : Type 0 where

@@ -1,6 +1,6 @@
--- A list of calls, refused ones and queries among them: from a store that holds the samples so far to one that holds theirs too. Accepted recordings write
--- to the finest ring, runs are not refused, everything else leaves the store as it is. It is the induction over the calls, for any set-up. Assumes
--- nothing.
+-- A list of calls, refused ones, queries and openings among them: from a store that holds the samples so far to one that holds theirs too. Accepted recordings
+-- write to the finest ring, runs are not refused, an opening keeps what the store holds, everything else leaves the store as it is. It is the induction over the
+-- calls, for any set-up. Assumes nothing.
 use Prim.Native.Nat.{ℕ, zero, suc, _^_, _<_}
 use native.Mathlib.Omega.{arith}
 use mathlib.Core.Path.{_≡_, refl, sym, ap, _∙_}
@@ -11,16 +11,16 @@ use Rattle.model.specs.Image.{rowCount, schemas}
 use Rattle.model.specs.Ring.{ColumnValue}
 use Rattle.model.specs.Lent.{Lent, row, tiers, rowNo}
 use Rattle.model.specs.Record.{Entry, seriesOf, handleOk, writeTo, recordCheck, recordOn, everyEntry, batchCheck, keepEntry, entriesOf, writeSome, writeSchemas, batchOn}
-use Rattle.model.specs.Store.{Call, recordCall, batchCall, queryCall, autoCall, consolidateCall, finished, call, after}
+use Rattle.model.specs.Store.{Call, recordCall, batchCall, queryCall, autoCall, consolidateCall, openCall, finished, call, after}
 use Rattle.demand.specs.Demand.{Sample, Event, took, ifAccepted, eventsOf, events, samplesIn, lastOf, scheduled}
 use Rattle.laws.specs.Tests.{and-left, and-right, lt-is}
+use Rattle.frame.specs.Recorded.{record-zero, batch-zero}
 use Rattle.frame.specs.Tiers.{rowNo-one, series-one}
 use Rattle.samples.specs.Lists.{samples-append, samples-took}
 use Rattle.samples.specs.Batch.{AllAt}
 use Rattle.samples.specs.Schedule.{lastStamp}
 use Rattle.runs.specs.Setup.{Setup, intervalOf, firstNo, Base, row-in, series-fixed}
-use Rattle.runs.specs.Accepted.{record-zero, batch-zero}
-use Rattle.runs.specs.Between.{Fits, Between, Next}
+use Rattle.runs.specs.Between.{Fits, Between, between-again, Next}
 use Rattle.runs.specs.Written.{valueOf, AllIn, written}
 use Rattle.runs.specs.AtRun.{ran-here}
 
@@ -134,15 +134,11 @@ one-call more lv (autoCall k c start end) f sch = idle more lv sch
 one-call {ys = ys} more lv consolidateCall f sch =
     unfold finished samplesIn in (
     rw (append-nil ys) (let r = ran-here more lv f sch in record { e = r .e; f = r .e; store = r .store; on-schedule = r .on-schedule }))
+one-call more lv (openCall fs) f sch = idle more (between-again lv fs) sch
 
 -- ---- a list of calls
 
 -- one list, then another
-pub after-append : (cs : List Call) (l : Lent) (ds : List Call) → after l (cs ++ ds) ≡ after (after l cs) ds
-unfolding after
-after-append [] l ds = refl
-after-append (c ∷ cs) l ds = after-append cs (call l c .lent) ds
-
 pub events-append : (cs : List Call) (l : Lent) (ds : List Call) → events l (cs ++ ds) ≡ events l cs ++ events (after l cs) ds
 unfolding events after
 events-append [] l ds = refl

@@ -1,25 +1,26 @@
--- The query after a run. Calls without events leave the store as it is; the query of a used column over all time is not refused, and its reader hands out
--- the newest numbers that the tier's ring holds, ascending, each with its value. Assumes nothing.
+-- The query after a run. Calls without events leave every tier with what it holds, and but for openings they leave the store as it is; the query of a used column
+-- over all time is not refused, and its reader hands out the newest numbers that the tier's ring holds, ascending, each with its value. Assumes nothing.
 use Prim.Native.Nat.{ℕ, zero, suc, _+_, _-_, _*_, _/_, _^_, _≤_, _<_}
 use native.Mathlib.Nat.{mul-le-mul-right, mul-pos}
 use native.Mathlib.Omega.{arith}
-use mathlib.Core.Path.{_≡_, refl, ap, _∙_}
+use mathlib.Core.Path.{_≡_, refl, sym, ap, _∙_, subst}
 use mathlib.Core.Bool.{true}
 use mathlib.Core.List.{List, [], _∷_, _++_, map}
 use lib.ListN.{length}
 use Rattle.model.specs.Image.{schemas, first, unless}
 use Rattle.model.specs.Lent.{Lent, tiers}
-use Rattle.model.specs.Record.{Entry, handleOk, recordCheck, recordOn, batchCheck, entriesOf, writeSome, writeSchemas, batchOn}
+use Rattle.model.specs.Record.{Entry, handleOk, recordCheck, recordOn, batchCheck, batchOn}
 use Rattle.model.specs.Query.{queryCheck, answered, queryOn, query}
-use Rattle.model.specs.Store.{Call, recordCall, batchCall, queryCall, autoCall, consolidateCall, readOr, call, after}
+use Rattle.model.specs.Store.{Call, recordCall, batchCall, queryCall, autoCall, consolidateCall, openCall, readOr, call, after}
 use Rattle.demand.specs.Demand.{Event, took, ran, ifAccepted, eventsOf, events, handedOut}
 use Rattle.laws.specs.Tests.{yes-lt}
 use Rattle.rings.specs.Hold.{firstHeld}
 use Rattle.rings.specs.Read.{pts, all-points}
+use Rattle.frame.specs.Recorded.{batch-none}
 use Rattle.frame.specs.Good.{open-good}
 use Rattle.frame.specs.Tiers.{length-one}
 use Rattle.samples.specs.Schedule.{touched}
-use Rattle.runs.specs.Setup.{Setup, tierCount, intervalOf, slotsOf, firstNo, Tier, newest-low}
+use Rattle.runs.specs.Setup.{Setup, tierCount, intervalOf, slotsOf, firstNo, Tier, newest-low, base-again, mark-again, tier-again}
 use Rattle.runs.specs.Run.{Settled}
 use Rattle.runs.specs.Calls.{rowNo-is, series-are}
 
@@ -32,11 +33,6 @@ nil-both : {A : Type 0} (xs ys : List A) → xs ++ ys ≡ [] → (xs ≡ []) × 
 nil-both [] ys h = (refl, h)
 nil-both (x ∷ xs) ys h = absurd (not-nil x (xs ++ ys) h)
 
-batch-none : (l : Lent) (k j t : ℕ) → writeSchemas l k j [] t ≡ l
-unfolding writeSchemas entriesOf writeSome
-batch-none l k zero t = refl
-batch-none l k (suc j) t = batch-none l (suc k) j t
-
 idle-record : (l : Lent) (n k c v t : ℕ) (x : Event) → ifAccepted n (x ∷ []) ≡ [] → recordOn n l k c v t ≡ l
 unfolding ifAccepted recordOn
 idle-record l zero k c v t x h = absurd (not-nil x [] h)
@@ -48,20 +44,30 @@ idle-batch l zero f [] t h = batch-none l 0 (schemas (l .image)) t
 idle-batch l zero f (x ∷ xs) t h = absurd (not-nil (f x) (map f xs) h)
 idle-batch l (suc n) f xs t h = refl
 
-idle-call : (l : Lent) (c : Call) → eventsOf l c ≡ [] → call l c .lent ≡ l
-unfolding eventsOf call
-idle-call l (recordCall k c v t) h = idle-record l (recordCheck l k c v t) k c v t (took (record { column = c; stamp = t; value = v })) h
-idle-call l (batchCall xs t) h = idle-batch l (batchCheck l xs t) (λ x. took (record { column = x .column; stamp = t; value = x .value })) xs t h
-idle-call l (queryCall k c j start end) h = refl
-idle-call l (autoCall k c start end) h = refl
-idle-call l consolidateCall h = absurd (not-nil ran [] h)
+-- what was settled stays settled: an opening works the flags out anew, every other such call leaves the store as it is
+module _ {S : Setup} {e : ℕ} where
+  same : {l m : Lent} → m ≡ l → Settled S l e → Settled S m e
+  same h st = subst (λ (m : Lent). Settled S m e) (sym h) st
 
-pub idle-calls : (cs : List Call) (l : Lent) → events l cs ≡ [] → after l cs ≡ l
-unfolding events after
-idle-calls [] l h = refl
-idle-calls (c ∷ cs) l h =
-    let n = nil-both (eventsOf l c) (events (call l c .lent) cs) h in
-    idle-calls cs (call l c .lent) (n .1) ∙ idle-call l c (n .0)
+  settled-call : (l : Lent) (c : Call) → eventsOf l c ≡ [] → Settled S l e → Settled S (call l c .lent) e
+  unfolding eventsOf call
+  settled-call l (recordCall k c v t) h st = same (idle-record l (recordCheck l k c v t) k c v t (took (record { column = c; stamp = t; value = v })) h) st
+  settled-call l (batchCall xs t) h st = same (idle-batch l (batchCheck l xs t) (λ x. took (record { column = x .column; stamp = t; value = x .value })) xs t h) st
+  settled-call l (queryCall k c j start end) h st = st
+  settled-call l (autoCall k c start end) h st = st
+  settled-call l consolidateCall h st = absurd (not-nil ran [] h)
+  settled-call l (openCall fs) h st = record {
+    base = base-again (st .base) fs;
+    tiers = λ j x. tier-again (st .base) fs j e x (st .tiers j x);
+    marks = λ j x. mark-again (st .base) fs j ∙ st .marks j x;
+  }
+
+  pub settled-calls : (cs : List Call) (l : Lent) → events l cs ≡ [] → Settled S l e → Settled S (after l cs) e
+  unfolding events after
+  settled-calls [] l h st = st
+  settled-calls (c ∷ cs) l h st =
+      let n = nil-both (eventsOf l c) (events (call l c .lent) cs) h in
+      settled-calls cs (call l c .lent) (n .1) (settled-call l c (n .0) st)
 
 -- ---- the query
 

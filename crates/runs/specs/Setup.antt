@@ -1,6 +1,6 @@
 -- What stays fixed through a list of calls: the plan, its tiers in whole windows of each other, the used columns and the values that every tier takes; and
 -- the store that belongs to it: in good order, its rows the plan's. Then a ring put back into its place, and a mark stored: the store still belongs to the set-up,
--- every other ring and mark stays. Assumes nothing.
+-- every other ring and mark stays. And an opening: the store belongs to it too, and every tier holds what it held. Assumes nothing.
 use Prim.Native.Nat.{ℕ, zero, suc, _+_, _-_, _*_, _/_, _^_, _≤_, _<_, min}
 use native.Mathlib.Nat.{mul-assoc, mul-le-mul-right, div-mul-le-self}
 use native.Mathlib.Omega.{arith}
@@ -13,10 +13,11 @@ use Rattle.model.specs.declared.Row.{Row}
 use Rattle.model.specs.declared.ConsolidationFn.the-variants.{Average}
 use Rattle.model.specs.Bytes.{get}
 use Rattle.model.specs.Image.{schemas, rowCount, rowAt, rowSlots, sound}
-use Rattle.model.specs.Ring.{Ring, isNaN}
-use Rattle.model.specs.Lent.{Lent, row, ring, withRing}
+use Rattle.model.specs.Ring.{Ring, isNaN, wrapFlag}
+use Rattle.model.specs.Lent.{Lent, row, ring, withRing, opening}
 use Rattle.model.specs.Consolidate.{withMark}
 use Rattle.rings.specs.Sound.{Sound}
+use Rattle.rings.specs.Hold.{State, state-opened}
 use Rattle.pairs.specs.Answers.{patternsOf, answerFor}
 use Rattle.pairs.specs.Fill.{Full, Given}
 use Rattle.frame.specs.Checks.{Alike, Like, sound-keeps}
@@ -24,6 +25,7 @@ use Rattle.frame.specs.Good.{Good, length-sound, setMark, count-kept, schemas-k
 use Rattle.frame.specs.Frame.{row-with, ring-same, ring-other}
 use Rattle.frame.specs.Mark.{row-withMark, row-withMark-other, ring-withMark}
 use Rattle.frame.specs.Stays.{Stays, stays-ring, stays-mark}
+use Rattle.frame.specs.Calls.{opened-image, opened-flags, ring-opened}
 use Rattle.samples.specs.Schedule.{touched}
 
 -- ---- what is fixed
@@ -210,3 +212,38 @@ put-mark {S} {l} b k hk t low =
       mark = ap (λ (x : Row). x .mark) (row-withMark l k t (b .good) there low) ∙ unfold setMark in refl;
       marks = λ j ne. ap (λ (x : Row). x .mark) (row-withMark-other l k t (b .good) there low j ne);
     }
+
+-- ---- an opening: each ring has its flag worked out anew, which does as well
+
+-- l opened, with these flags handed
+abbrev pub again : Lent → List Bool → Lent
+again l fs = opening (record { image = l .image; flags = fs })
+
+module _ {S : Setup} {l : Lent} (b : Base S l) (fs : List Bool) where
+  abbrev m : Lent
+  m = record { image = l .image; flags = fs }
+
+  pub base-again : Base S (again l fs)
+  base-again =
+      let e = opened-image m in
+      record {
+        good = rw e (b .good);
+        like = rw e (b .like);
+        flags-are = rw (b .like .count-is) at (opened-flags m (b .good));
+        one-schema = rw e (b .one-schema);
+      }
+
+  pub ring-again : (k : ℕ) → k < tierCount S → ring (again l fs) k ≡ record { slab = ring l k .slab; wrapped = wrapFlag (ring l k .slab) }
+  ring-again k h = ring-opened m (b .good) k (row-in b k h) ∙ unfold ring row in refl
+
+  pub mark-again : (k : ℕ) → row (again l fs) k .mark ≡ row l k .mark
+  unfolding row
+  mark-again k = ap (λ (s : List ℕ). rowAt s k .mark) (opened-image m)
+
+  -- what a tier's ring took it took still
+  pub state-again : (k e : ℕ) → k < tierCount S → State (ring l k) (slotsOf S k) (S .columns) (intervalOf S k) (firstNo S k) e
+      → State (ring (again l fs) k) (slotsOf S k) (S .columns) (intervalOf S k) (firstNo S k) e
+  state-again k e h st = rw (ring-again k h) (state-opened st)
+
+  pub tier-again : (k e : ℕ) → k < tierCount S → Tier S l k e → Tier S (again l fs) k e
+  tier-again k e h t = record { state = state-again k (touched (S .long k) e) h (t .state); cols = rw (ring-again k h) (t .cols) }

@@ -22,6 +22,11 @@ abbrev pub Among : ℕ → List ℕ → Type 0
 Among x [] = ⊥
 Among x (y ∷ ys) = (x ≡ y) ⊎ Among x ys
 
+-- from b on, each above the one before it
+abbrev pub Ascends : ℕ → List ℕ → Type 0
+Ascends b [] = Unit {0}
+Ascends b (w ∷ ws) = (b ≤ w) × Ascends (suc w) ws
+
 module _ (q : Job) where
   abbrev stampOf : ℕ → ℕ
   stampOf i = stamp (q .source .slab) i
@@ -199,10 +204,6 @@ module _ (q : Job) where
         (next-yes 0 (stampOf i) (rw (yes-le (q .start) (stampOf i) s, yes-lt (stampOf i) (q .end) e)) (omega arith))
 
     -- ---- windows ascend, and none is found twice
-
-    abbrev pub Ascends : ℕ → List ℕ → Type 0
-    Ascends b [] = Unit {0}
-    Ascends b (w ∷ ws) = (b ≤ w) × Ascends (suc w) ws
 
     ascend-from : (k b : ℕ) → Ascends b (windowsFrom q k (nextWindow q b))
     unfolding windowsFrom

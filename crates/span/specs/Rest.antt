@@ -5,19 +5,18 @@ use Prim.Native.Nat.{ℕ, zero, suc, _+_, _-_, _*_, _/_, _%_, _≤_, _<_}
 use native.Mathlib.Nat.{zero-add, mul-le-mul-right, le-div-iff-mul-le, div-mul-le-self, suc-mul}
 use native.Mathlib.Omega.{arith}
 use native.Mathlib.Decide.{decLt}
-use mathlib.Core.Path.{_≡_, refl, sym, ap, _∙_, subst}
+use mathlib.Core.Path.{_≡_, refl, sym, ap, _∙_}
 use mathlib.Core.Logic.{_≢_}
-use mathlib.Core.Bool.{Bool, true, false, _&&_, cond, false≢true}
+use mathlib.Core.Bool.{Bool, true, false, _&&_, false≢true}
 use mathlib.Core.List.{List, [], _∷_, _++_}
 use lib.ListN.{length}
 use lib.Dec.{leb, ltb}
-use lib.Ieee.{Float}
 use Rattle.model.specs.declared.End.{End}
 use Rattle.model.specs.declared.End.the-variants.{At, Missing}
 use Rattle.model.specs.declared.Held.{Held}
 use Rattle.model.specs.declared.Held.the-variants.{Outside}
 use Rattle.model.specs.Ring.{stamp, cell, walk, slots, order}
-use Rattle.model.specs.Window.{Job, windowOf, held, heldIn, seenOne, seen, keepFinite, finites, answerOf, windowAnswer}
+use Rattle.model.specs.Window.{Job, windowOf, held, heldIn, seenOne, seen, keepFinite, finites, windowAnswer}
 use Rattle.model.specs.Consolidate.{Filled, lower, lowerIf, isNext, leastFrom, nextWindow, windowsFrom, windows, fillWindow, fill}
 use Rattle.laws.specs.Tests.{yes-le, yes-lt, no-le, no-lt, le-is, lt-is, and-left, and-right}
 use Rattle.window.specs.Parts.{along}
@@ -37,11 +36,6 @@ walk-split n i zero j = ap (walk n i) (zero-add j) ∙ unfold steps in refl
 walk-split n i (suc k) j =
     let e : suc k + j ≡ suc (k + j) = omega arith in
     ap (walk n i) e ∙ ap (λ (l : List ℕ). i ∷ l) (walk-split n (suc i % n) k j ∙ ap (λ (x : ℕ). walk n (suc i % n) k ++ walk n x j) (steps-on n i k))
-
-pub length-walk : (n i k : ℕ) → length (walk n i k) ≡ k
-unfolding walk
-length-walk n i zero = refl
-length-walk n i (suc k) = ap suc (length-walk n (suc i % n) k)
 
 -- ---- the windows of stamps
 

@@ -19,7 +19,7 @@ pub fn create(plan: &[u8], image: &mut [u8], flags: &mut model::Flags) -> model:
     done.outcome
 }
 
-// Opens an image in a lent slice: checks it, and works out the flags of its rows.
+// Opens an image in a lent slice: checks it, and works out the flags of its rows, each from the stamps above its ring's cursor.
 pub fn open(image: &[u8], flags: &mut model::Flags) -> model::Outcome
     ensures { λ r. ⌜ (outcomeNo r ≡ openCheck (now (image .entry))) × (lentOf (now (image .entry)) (now (flags .exit)) ≡ opening (lentOf (now (image .entry)) (now (flags .entry)))) ⌝ }
 {

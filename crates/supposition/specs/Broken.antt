@@ -6,7 +6,7 @@ use mathlib.Core.Bool.{Bool, true, false}
 use mathlib.Core.List.{List, [], _∷_, _++_, map}
 use lib.ListN.{length, replicate}
 use Rattle.model.specs.declared.Row.{Row}
-use Rattle.model.specs.Store.{Call, recordCall, batchCall, consolidateCall}
+use Rattle.model.specs.Store.{Call, recordCall, batchCall, consolidateCall, openCall}
 use Rattle.demand.specs.Demand.{Situation, suited, supposed, history}
 use Rattle.model.specs.Cases.{tier, plan, num}
 use Rattle.demand.specs.Instance.{Instance-defs, both}
@@ -37,7 +37,7 @@ unfoldable pub isSupposed : List Call → Bool
 isSupposed cs = isSupposedAt 20 cs
 
 -- a run follows each list. Good: one interval; two intervals; a run twice; a run in the middle of an interval; runs as far apart as may be, after the first
--- tick of an interval and the last of the next; a run after each tick
+-- tick of an interval and the last of the next; a run after each tick; openings before the first sample, within a tick and on both sides of a run
 unfoldable pub good : List Bool
 good =
     isSupposed (both 20 (num 1) (num 2) ∷ both 30 (num 1) (num 2) ∷ [])
@@ -45,23 +45,25 @@ good =
     ∷ isSupposed (recordCall 0 1 (num 1) 20 ∷ recordCall 0 1 (num 1) 30 ∷ consolidateCall ∷ [])
     ∷ isSupposed (both 20 (num 1) (num 2) ∷ consolidateCall ∷ both 30 (num 1) (num 2) ∷ [])
     ∷ isSupposed (recordCall 0 1 (num 1) 20 ∷ consolidateCall ∷ recordCall 0 1 (num 1) 30 ∷ recordCall 0 1 (num 1) 40 ∷ recordCall 0 1 (num 1) 50 ∷ [])
-    ∷ isSupposed (recordCall 0 1 (num 1) 20 ∷ consolidateCall ∷ recordCall 0 1 (num 1) 30 ∷ consolidateCall ∷ recordCall 0 1 (num 1) 40 ∷ []) ∷ []
+    ∷ isSupposed (recordCall 0 1 (num 1) 20 ∷ consolidateCall ∷ recordCall 0 1 (num 1) 30 ∷ consolidateCall ∷ recordCall 0 1 (num 1) 40 ∷ [])
+    ∷ isSupposed (openCall [] ∷ recordCall 0 0 (num 1) 20 ∷ openCall [] ∷ recordCall 0 1 (num 1) 20 ∷ openCall [] ∷ consolidateCall ∷ openCall [] ∷ both 30 (num 1) (num 2) ∷ []) ∷ []
 
-pub good-are : good ≡ true ∷ true ∷ true ∷ true ∷ true ∷ true ∷ []
+pub good-are : good ≡ true ∷ true ∷ true ∷ true ∷ true ∷ true ∷ true ∷ []
 unfolding Instance-defs isSupposedAt isSupposed good
 good-are = refl
 
 -- the runs: none in the first interval; none in the second, after one in the middle of the first and after one behind its last tick; one before a tick's last
--- sample; one before the first sample; no sample at all
+-- sample; one before the first sample; no sample at all; an opening in place of the first interval's
 unfoldable pub offSchedule : List Bool
 offSchedule =
     isSupposed (both 20 (num 1) (num 2) ∷ both 30 (num 1) (num 2) ∷ both 40 (num 1) (num 2) ∷ both 50 (num 1) (num 2) ∷ [])
     ∷ isSupposed (recordCall 0 1 (num 1) 20 ∷ consolidateCall ∷ recordCall 0 1 (num 1) 30 ∷ recordCall 0 1 (num 1) 40 ∷ recordCall 0 1 (num 1) 50 ∷ recordCall 0 1 (num 1) 60 ∷ [])
     ∷ isSupposed (recordCall 0 1 (num 1) 20 ∷ recordCall 0 1 (num 1) 30 ∷ consolidateCall ∷ recordCall 0 1 (num 1) 40 ∷ recordCall 0 1 (num 1) 50 ∷ recordCall 0 1 (num 1) 60 ∷ [])
     ∷ isSupposed (both 20 (num 1) (num 2) ∷ recordCall 0 0 (num 2) 30 ∷ consolidateCall ∷ recordCall 0 1 (num 2) 30 ∷ [])
-    ∷ isSupposed (consolidateCall ∷ recordCall 0 1 (num 1) 20 ∷ []) ∷ isSupposed [] ∷ []
+    ∷ isSupposed (consolidateCall ∷ recordCall 0 1 (num 1) 20 ∷ []) ∷ isSupposed []
+    ∷ isSupposed (both 20 (num 1) (num 2) ∷ both 30 (num 1) (num 2) ∷ openCall [] ∷ both 40 (num 1) (num 2) ∷ []) ∷ []
 
-pub off-schedule : offSchedule ≡ false ∷ false ∷ false ∷ false ∷ false ∷ false ∷ []
+pub off-schedule : offSchedule ≡ false ∷ false ∷ false ∷ false ∷ false ∷ false ∷ false ∷ []
 unfolding Instance-defs isSupposedAt isSupposed offSchedule
 off-schedule = refl
 

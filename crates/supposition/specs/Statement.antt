@@ -6,12 +6,13 @@ use mathlib.Core.List.{List, [], _∷_, map}
 use lib.ListN.{replicate}
 use lib.Dec.{T, lit<}
 use Rattle.model.specs.declared.Row.{Row}
+use Rattle.model.specs.declared.Point.{Point}
 use Rattle.model.specs.Image.{rows, rowCount, schemas, createCheck}
-use Rattle.model.specs.Store.{Call, recordCall, consolidateCall}
-use Rattle.demand.specs.Demand.{Demand-defs, suited, supposed, used, Situation, finest, coarsest, events, afterRun, history, samples, tierInterval, due, ThirdDemand}
+use Rattle.model.specs.Store.{Call, recordCall, consolidateCall, openCall}
+use Rattle.demand.specs.Demand.{Demand-defs, suited, supposed, used, Situation, finest, coarsest, events, afterRun, history, samples, answers, tierInterval, due, ThirdDemand}
 use Rattle.model.specs.Cases.{Cases-defs, tier, plan, num}
 use Rattle.demand.specs.Instance.{minus, sameNumbers}
-use Rattle.supposition.specs.Needed.{kept}
+use Rattle.supposition.specs.Needed.{Needed-defs, clauses, conj, kept, on, off, small}
 
 -- ---- a story: 10, 20 and 40 ns with 8, 6 and 2 slots; nine ticks of column 1, most offsets below zero; runs in the middle of the first coarsest interval,
 -- after the second's last tick and, left to Situation, after the third's first, where windows of 20 and of 40 are open
@@ -99,3 +100,26 @@ tier-in = lit< tt
 pub reaches : ThirdDemand → T (kept (story 2))
 unfolding ThirdDemand kept
 reaches d = d (story 2) accepted one-schema suited-plan met quiet column-used tier-in
+
+-- ---- openings: 1 and 2 ns with four and two slots; samples at 2 and 3, a run, a sample at 4, an opening, and the run left to Situation. At the opening the finest
+-- ring has its cursor in slot 0, no stamp in slot 1, and 2 and 3 above it: by document 01's own rule there would be no flag, and 4 alone would be read
+
+unfoldable pub cycled : ℕ → Situation
+cycled = on (small 4 2) (off 2 1 ∷ off 3 3 ∷ consolidateCall ∷ off 4 9 ∷ openCall (replicate 32 false) ∷ [])
+
+-- the same with an opening before and after every call, and before the query
+unfoldable pub always : ℕ → Situation
+always k =
+    let o = openCall [] in
+    let s = on (small 4 2) (o ∷ off 2 1 ∷ o ∷ off 3 3 ∷ o ∷ consolidateCall ∷ o ∷ off 4 9 ∷ o ∷ []) k in
+    record { plan = s .plan; buf = s .buf; flags = s .flags; before = s .before; between = o ∷ []; column = s .column; tier = s .tier }
+
+pub every-point : T (sameNumbers (map (λ (p : Point). p .stamp) (answers (cycled 0))) (2 ∷ 3 ∷ 4 ∷ []))
+unfolding Needed-defs sameNumbers cycled
+every-point = tt
+
+pub opened-kept :
+    T (conj (clauses (cycled 0)) && suited (rows (cycled 0 .plan)) && kept (cycled 0) && kept (cycled 1))
+    × T (conj (clauses (always 0)) && kept (always 0) && kept (always 1))
+unfolding Needed-defs conj cycled always
+opened-kept = (tt, tt)

@@ -1,17 +1,19 @@
--- Every list of calls whose fields fit their widths, and so every list that can be made, stands in some bytes: reading `encoded cs` gives cs again. So what
--- `tie::demand` promises of calls in bytes it promises of all these lists. Assumes nothing.
+-- Every list of calls whose fields fit their widths, an opening's flags 32, and so every list that can be made, stands in some bytes: reading `encoded cs`
+-- gives cs again. So what `tie::demand` promises of calls in bytes it promises of all these lists. Assumes nothing.
 use Prim.Native.Nat.{ℕ, zero, suc, _+_, _*_, _/_, _^_, _≤_, _<_}
 use native.Mathlib.Omega.{arith}
 use mathlib.Core.Path.{_≡_, refl, sym, ap, _∙_}
+use mathlib.Core.Bool.{Bool}
 use mathlib.Core.List.{List, [], _∷_, _++_}
 use lib.ListN.{length, take, drop, length-append, length-drop}
 use lib.Seq.{drop-drop, take-at, drop-at}
 use Rattle.model.specs.Bytes.{le, bytes, part, get}
 use Rattle.model.specs.Record.{Entry, entryAt, entriesFrom, entries}
-use Rattle.model.specs.Store.{Call, recordCall, batchCall, queryCall, autoCall, consolidateCall}
+use Rattle.model.specs.Store.{Call, recordCall, batchCall, queryCall, autoCall, consolidateCall, openCall}
 use Rattle.laws.specs.Tests.{yes-le, no-le}
 use Rattle.laws.specs.Bytes.{le-bytes}
-use Rattle.calls.specs.Encoded.{batchSize, sizeAt, recordAt, batchAt, queryAt, autoAt, callAt, callsFrom, callsIn}
+use Rattle.bits.specs.Bits.{bits, number, bits-of-number, number-fits}
+use Rattle.calls.specs.Encoded.{batchSize, sizeAt, recordAt, batchAt, queryAt, autoAt, handedAt, openAt, callAt, callsFrom, callsIn}
 use Rattle.calls.proofs.Laws.{size-low}
 
 -- ---- the bytes of calls
@@ -31,7 +33,8 @@ encode (recordCall k c v t) = head 0 k c 0 v t
 encode (batchCall es t) = head 1 0 0 (length es) 0 t ++ entriesBytes es
 encode (queryCall k c j start end) = head 2 k c j start end
 encode (autoCall k c start end) = head 3 k c 0 start end
-encode consolidateCall = head 4 0 0 0 0 0
+encode (openCall fs) = head 4 (number fs) 0 0 0 0
+encode consolidateCall = head 5 0 0 0 0 0
 
 unfoldable pub encoded : List Call → List ℕ
 encoded [] = []
@@ -53,6 +56,7 @@ Fits (recordCall k c v t) = (k < 2 ^ 32) × (c < 2 ^ 32) × (v < 2 ^ 64) × (t <
 Fits (batchCall es t) = (length es < 2 ^ 32) × EntriesFit es × (t < 2 ^ 64)
 Fits (queryCall k c j start end) = (k < 2 ^ 32) × (c < 2 ^ 32) × (j < 2 ^ 32) × (start < 2 ^ 64) × (end < 2 ^ 64)
 Fits (autoCall k c start end) = (k < 2 ^ 32) × (c < 2 ^ 32) × (start < 2 ^ 64) × (end < 2 ^ 64)
+Fits (openCall fs) = length fs ≡ 32
 Fits consolidateCall = Unit {0}
 
 unfoldable pub AllFit : List Call → Type 0
@@ -133,13 +137,18 @@ same-query p q r s t = rw (p, q, r, s, t)
 same-auto : {k c x y k' c' x' y' : ℕ} → k ≡ k' → c ≡ c' → x ≡ x' → y ≡ y' → autoCall k c x y ≡ autoCall k' c' x' y'
 same-auto p q r s = rw (p, q, r, s)
 
+-- 32 flags fit the four bytes of their number
+flags-are : (fs : List Bool) → length fs ≡ 32 → bits 32 (le (bytes 4 (number fs))) ≡ fs
+flags-are fs h = bits-of-number fs 32 (le (bytes 4 (number fs))) h (le-bytes 4 (number fs) (number-fits fs 32 (omega arith)))
+
 call-is : (c : Call) (r : List ℕ) → Fits c → callAt (encode c ++ r) 0 ≡ c
-unfolding callAt recordAt batchAt queryAt autoAt encode head get part bytes le Fits
+unfolding callAt recordAt batchAt queryAt autoAt openAt handedAt encode head get part bytes le Fits
 call-is (recordCall k c v t) r f = same-record (le-bytes 4 k (f .0)) (le-bytes 4 c (f .1)) (le-bytes 8 v (f .2)) (le-bytes 8 t (f .3))
 call-is (batchCall es t) r f =
     same-batch (ap (λ (n : ℕ). entries (take (16 * n) (entriesBytes es ++ r))) (le-bytes 4 (length es) (f .0)) ∙ ap entries (take-at (entriesBytes es) r (16 * length es) (length-entries es)) ∙ entries-are es (f .1)) (le-bytes 8 t (f .2))
 call-is (queryCall k c j x y) r f = same-query (le-bytes 4 k (f .0)) (le-bytes 4 c (f .1)) (le-bytes 4 j (f .2)) (le-bytes 8 x (f .3)) (le-bytes 8 y (f .4))
 call-is (autoCall k c x y) r f = same-auto (le-bytes 4 k (f .0)) (le-bytes 4 c (f .1)) (le-bytes 8 x (f .2)) (le-bytes 8 y (f .3))
+call-is (openCall fs) r f = ap openCall (flags-are fs f)
 call-is consolidateCall r f = refl
 
 length-head : (kind k c j x y : ℕ) → length (head kind k c j x y) ≡ 32
@@ -153,10 +162,11 @@ size-is (batchCall es t) r f =
     ap (λ (n : ℕ). 32 + 16 * n) (le-bytes 4 (length es) (f .0)) ∙ sym (length-append (head 1 0 0 (length es) 0 t) (entriesBytes es) ∙ ap (λ (n : ℕ). 32 + n) (length-entries es))
 size-is (queryCall k c j x y) r f = refl
 size-is (autoCall k c x y) r f = refl
+size-is (openCall fs) r f = refl
 size-is consolidateCall r f = refl
 
 call-from : (b : List ℕ) (o : ℕ) → callAt b o ≡ callAt (drop o b) 0
-unfolding callAt recordAt batchAt queryAt autoAt
+unfolding callAt recordAt batchAt queryAt autoAt openAt handedAt
 call-from b o = rw (get-here 4 b o, get-at 4 b o 4, get-at 4 b o 8, get-at 4 b o 12, get-at 8 b o 16, get-at 8 b o 24, part-at b o 32 (16 * get 4 (drop o b) 12))
 
 size-from : (b : List ℕ) (o : ℕ) → sizeAt b o ≡ sizeAt (drop o b) 0
