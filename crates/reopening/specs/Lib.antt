@@ -1,0 +1,2 @@
+pub mod Reopening
+pub mod Instance
