@@ -87,7 +87,10 @@ pub enum Call {
         place: (u64, u64),
     },
     Consolidate,
-    Open,
+    /// Handed the image as left and flags: these (bit i row i's), or those as left.
+    Open {
+        handed: Option<u32>,
+    },
     /// Someone else writes into a row's slab: no call of the library.
     Poke {
         row: usize,
@@ -103,6 +106,9 @@ pub enum Call {
         length: usize,
     },
 }
+
+/// Opening, handed image and flags as left.
+pub const OPEN: Call = Call::Open { handed: None };
 
 #[derive(Clone, Copy, Debug, PartialEq, Eq)]
 pub enum Cell {
@@ -214,4 +220,6 @@ pub trait Side {
     fn state(&self) -> State<'_>;
     /// Sets the marks, where a refused run lost them (`Kind::Store`).
     fn set_marks(&mut self, _marks: &[u64]) {}
+    /// Takes these slabs and marks in place of its own; an opening follows (sides of the Rust).
+    fn hand(&mut self, _slabs: &[&[u8]], _marks: &[u64]) {}
 }

@@ -1,8 +1,8 @@
 //! Runs one list of calls on all sides and compares after each call; makes a list that
 //! shows a difference as small as it can.
 
-use crate::calls::{Answer, Call, Kind, Plan, Side, State, Tier};
-use crate::plain::{Flags, HEADER, ROW, infinite};
+use crate::calls::{Answer, Call, Kind, OPEN, Plan, Side, State, Tier};
+use crate::plain::{self, Flags, HEADER, ROW, infinite};
 use crate::sides::{Lent, Plain, lent_flags, published};
 
 #[derive(Clone, Debug, PartialEq, Eq)]
@@ -51,6 +51,25 @@ pub struct Tally {
     pub by_hash_order: u64,
     /// Refused runs that lost a finished pair's mark in the Rust.
     pub marks_lost: u64,
+    /// Openings refused; accepted; and those of them where document 01's rule sets other flags: some
+    /// flag true by request 2026-02 alone, some by document 01 alone.
+    pub not_opened: u64,
+    pub opened: u64,
+    pub parted: u64,
+    pub only_new: u64,
+    pub only_old: u64,
+    /// Openings that the Rust's sides, one or more, were held to with the same flags; openings where
+    /// the rules part and the Rust's flags were seen to be document 01's; those at which it came back.
+    pub beside: u64,
+    /// Those with the same flags that stand in lists for sides on lent bytes only.
+    pub lent_only: u64,
+    pub seen_old: u64,
+    pub returned: u64,
+    /// Lists carried out without their openings too, of the plain side and of the library; the
+    /// openings taken out; the answers held against those of the list without them.
+    pub cycled: u64,
+    pub taken_out: u64,
+    pub alike: u64,
     /// Queries held against the third demand.
     pub demanded: u64,
     /// Schedules that do not meet its supposition, and those of them after which a query is unlike it.
@@ -72,6 +91,18 @@ impl Tally {
         self.not_asked += t.not_asked;
         self.by_hash_order += t.by_hash_order;
         self.marks_lost += t.marks_lost;
+        self.not_opened += t.not_opened;
+        self.opened += t.opened;
+        self.parted += t.parted;
+        self.only_new += t.only_new;
+        self.only_old += t.only_old;
+        self.beside += t.beside;
+        self.lent_only += t.lent_only;
+        self.seen_old += t.seen_old;
+        self.returned += t.returned;
+        self.cycled += t.cycled;
+        self.taken_out += t.taken_out;
+        self.alike += t.alike;
         self.demanded += t.demanded;
         self.outside += t.outside;
         self.broken += t.broken;
@@ -98,7 +129,7 @@ pub fn asked(kind: Kind, call: &Call, leader: &Answer) -> Asked {
         (_, Call::Next { .. }) => Asked::Pass,
         (Kind::Engine, Call::Query { .. } | Call::Auto { .. }) => Asked::Pass,
         (_, Call::Consolidate) if refused == 10 => Asked::Stop,
-        (_, Call::Open) if refused != 0 => Asked::Stop,
+        (_, Call::Open { .. }) if refused != 0 => Asked::Stop,
         _ if refused == 11 => Asked::Pass,
         (_, Call::Record { stamp, .. } | Call::Batch { stamp, .. })
             if refused == 13 && *stamp >= 1 << 63 =>
@@ -114,6 +145,21 @@ pub fn asked(kind: Kind, call: &Call, leader: &Answer) -> Asked {
         }
         _ => Asked::Yes,
     }
+}
+
+/// Where a side stands.
+#[derive(Clone, Copy, PartialEq)]
+enum Stand {
+    Beside,
+    /// Away since an opening where document 01's rule sets other flags, up to the next where it
+    /// sets the same.
+    Away,
+    Gone,
+}
+
+/// The flags that document 01's rule sets where ours has opened.
+fn old_flags(opened: &State) -> Vec<bool> {
+    opened.slabs.iter().map(|slab| plain::old_wrap_flag(slab)).collect()
 }
 
 /// Where two states differ first, in words.
@@ -277,7 +323,8 @@ pub fn run(list: &List, sides: &mut [Box<dyn Side>], tally: &mut Tally) -> Optio
     {
         return differs(0, leader.name(), "creation: flags or surplus".to_string());
     }
-    let mut active: Vec<bool> = sides.iter().map(|s| follows(s.as_ref())).collect();
+    let stand = |s: &dyn Side| if follows(s) { Stand::Beside } else { Stand::Gone };
+    let mut stands: Vec<Stand> = sides.iter().map(|s| stand(s.as_ref())).collect();
     for side in sides.iter_mut().filter(|s| follows(s.as_ref())) {
         let theirs = create(side.as_mut(), list);
         if theirs != made {
@@ -297,11 +344,50 @@ pub fn run(list: &List, sides: &mut [Box<dyn Side>], tally: &mut Tally) -> Optio
             Answer::Points { points, .. } => tally.points += points.len() as u64,
             _ => {}
         }
+        if let &Call::Open { handed: Some(number) } = call {
+            before.flags = plain::flags_of(number);
+        }
         if let Some(what) = frame(call, &ours, &before, &after) {
             return differs(i + 1, leader.name(), what);
         }
-        for (side, active) in sides.iter_mut().zip(&mut active) {
-            if !*active {
+        let opened = matches!(call, Call::Open { .. }) && ours == Answer::Done;
+        let old = if opened { old_flags(&after) } else { Vec::new() };
+        let parts = opened && old != after.flags;
+        tally.not_opened += (!opened && matches!(call, Call::Open { .. })) as u64;
+        if opened {
+            let only = |a: &[bool], b: &[bool]| a.iter().zip(b).any(|(&a, &b)| a && !b) as u64;
+            tally.opened += 1;
+            tally.parted += parts as u64;
+            tally.lent_only += (whole && !parts) as u64;
+            tally.only_new += only(&after.flags, &old);
+            tally.only_old += only(&old, &after.flags);
+        }
+        let (mut beside, mut seen_old, mut returned) = (false, false, false);
+        for (side, stand) in sides.iter_mut().zip(&mut stands) {
+            let rust = side.kind() != Kind::Whole;
+            if *stand == Stand::Away && opened && !parts {
+                side.hand(&after.slabs, &after.marks);
+                *stand = Stand::Beside;
+                returned = true;
+            }
+            if *stand != Stand::Beside {
+                continue;
+            }
+            if parts && rust {
+                // The Rust cannot follow from here; but it opens as document 01 says.
+                let theirs = side.call(call);
+                let as_old = State { flags: old.clone(), lent: None, ..after.clone() };
+                let what = if theirs != ours {
+                    Some(format!("{} and {}", words(&ours), words(&theirs)))
+                } else {
+                    unlike(&as_old, &side.state())
+                };
+                if let Some(what) = what {
+                    return differs(i + 1, side.name(), format!("by document 01's rule: {what}"));
+                }
+                tally.count(side.kind());
+                seen_old = true;
+                *stand = Stand::Away;
                 continue;
             }
             let theirs = match asked(side.kind(), call, &ours) {
@@ -313,7 +399,7 @@ pub fn run(list: &List, sides: &mut [Box<dyn Side>], tally: &mut Tally) -> Optio
                 }
                 Asked::Stop => {
                     tally.not_asked += 1;
-                    *active = false;
+                    *stand = Stand::Gone;
                     continue;
                 }
             };
@@ -331,7 +417,7 @@ pub fn run(list: &List, sides: &mut [Box<dyn Side>], tally: &mut Tally) -> Optio
                 let several = matches!(ours, Answer::Count(2..) | Answer::Refused(12 | 13 | 16));
                 if side.name() == "published" && *call == Call::Consolidate && several {
                     tally.by_hash_order += 1;
-                    *active = false;
+                    *stand = Stand::Gone;
                     continue;
                 }
                 return differs(i + 1, side.name(), what);
@@ -340,7 +426,11 @@ pub fn run(list: &List, sides: &mut [Box<dyn Side>], tally: &mut Tally) -> Optio
                 tally.marks_lost += 1;
                 side.set_marks(&after.marks);
             }
+            beside |= opened && rust;
         }
+        tally.beside += beside as u64;
+        tally.seen_old += seen_old as u64;
+        tally.returned += returned as u64;
         before.take(&after);
     }
     None
@@ -411,6 +501,7 @@ fn smaller(list: &List) -> Vec<List> {
                     }
                 }
             }
+            Call::Open { handed: Some(_) } => found.push(with(&|l| l.calls[i] = OPEN)),
             Call::Batch { entries, .. } => {
                 for e in 0..entries.len() {
                     found.push(with(&|l| {

@@ -1,12 +1,14 @@
-//! The third demand: document 01's words for it with request 2026-01, and lists that meet its
-//! supposition. A list's samples and runs go by the plain reading.
+//! The third demand: document 01's words for it with requests 2026-01 and 2026-02, and lists that
+//! meet its supposition. A list's samples and runs go by the plain reading.
 
 use std::collections::BTreeMap;
 
 use crate::Session;
 use crate::calls::{Answer, Call, Plan, Schema, Side, Tier};
 use crate::compare::List;
-use crate::generate::{INFINITY, Random};
+use crate::edge::Edge;
+use crate::generate::{self, INFINITY, Random};
+use crate::opened;
 use crate::sides::{Lent, Library, Plain};
 
 const ALL: (u64, u64) = (0, u64::MAX);
@@ -240,7 +242,7 @@ pub fn plan(r: &mut Random, intervals: &[u64]) -> Plan {
 }
 
 /// A list on such a plan that meets the supposition, with the queries that it speaks of after each
-/// run, and calls between that are refused or change nothing.
+/// run, and calls between that are refused or change nothing; openings, handed any flags, among them.
 pub fn list(r: &mut Random, plan: Plan, schedule: Schedule, ticks: u64) -> List {
     let tiers = &plan.0[0].tiers;
     let (fine, coarse) = (tiers[0].interval, tiers[tiers.len() - 1].interval);
@@ -269,10 +271,15 @@ pub fn list(r: &mut Random, plan: Plan, schedule: Schedule, ticks: u64) -> List 
         Call::Query { schema: 0, column: 1, tier: 1, start: first, end: first },
         Call::Auto { schema: 0, column: 1, start: first, end: first + coarse },
     ];
+    // Half of the lists have no openings; in the others they stand anywhere.
+    let opens = if ticks > 1000 { r.of(&[0, 300]) } else { r.of(&[0, 0, 0, 1, 3, 20]) };
     let mut calls = Vec::new();
     let stir = |r: &mut Random, calls: &mut Vec<Call>| {
         if r.one_in(8) {
             calls.push(noise[r.below(noise.len() as u64) as usize].clone());
+        }
+        if opens > 0 && r.one_in(opens) {
+            calls.push(generate::opening(r));
         }
     };
     for (i, run) in runs(r, schedule, coarse / fine, ticks).into_iter().enumerate() {
@@ -293,7 +300,10 @@ pub fn list(r: &mut Random, plan: Plan, schedule: Schedule, ticks: u64) -> List 
             }
         }
         if run {
-            calls.extend(vec![Call::Consolidate; 1 + r.one_in(4) as usize]);
+            for _ in 0..1 + r.one_in(4) as usize {
+                stir(r, &mut calls);
+                calls.push(Call::Consolidate);
+            }
             for &column in used {
                 for tier in 0..tiers.len() as u32 {
                     stir(r, &mut calls);
@@ -374,10 +384,31 @@ fn scheduled_list(plan: &Plan, ticks: u64, runs: u64) -> List {
     List::new(plan.clone(), calls)
 }
 
+/// The same list with openings put in: before the first call and after each. The demand is checked
+/// of the plain side and of the library, and they are compared, with and without the openings.
+fn with_openings(s: &mut Session, sides: &mut [opened::Asked], list: &List, seed: u64) {
+    let r = &mut Random(seed);
+    let mut calls = vec![generate::opening(r)];
+    for call in &list.calls {
+        calls.extend([call.clone(), generate::opening(r)]);
+    }
+    let list = List::new(list.plan.clone(), calls);
+    if !supposed(&list.plan, &events(&list.plan, &list.calls)) {
+        return s.differs(format!("not a list of the third demand: {list:?}"));
+    }
+    for found in [check(Plain, &list.plan, &list.calls), check(Edge, &list.plan, &list.calls)] {
+        match found {
+            Ok(checked) => s.tally.demanded += checked,
+            Err(what) => s.differs(what),
+        }
+    }
+    opened::checked(s, sides, &list, r);
+}
+
 /// Ways to set runs after a few ticks, on small plans whose finer rings span two coarsest intervals
 /// exactly: every way on the first six, every so many-th on the others. The demand is checked of
-/// those that meet its supposition; all are compared.
-pub fn schedules(s: &mut Session) {
+/// those that meet its supposition, with openings too; all are compared.
+pub fn schedules(s: &mut Session, sides: &mut [opened::Asked]) {
     let plans: [(&[(u64, u64, u32)], u64, usize); 8] = [
         (&[(1, 4, 0), (2, 2, 1)], 10, 1),
         (&[(1, 4, 0), (2, 5, 1)], 10, 1),
@@ -396,6 +427,7 @@ pub fn schedules(s: &mut Session) {
             }
             let list = scheduled_list(&plan, ticks, runs);
             if supposed(&plan, &events(&plan, &list.calls)) {
+                with_openings(s, sides, &list, runs);
                 demanded(s, list);
             } else {
                 s.tally.outside += 1;

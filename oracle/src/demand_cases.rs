@@ -1,5 +1,6 @@
 //! The third demand's check can fail: lists outside of its supposition, other starts of a reading,
-//! altered points. The lists are those of request 2026-01's readings and rows.
+//! other flags at opening, altered points. The lists are those of requests 2026-01's and 2026-02's
+//! readings and rows.
 
 use super::*;
 use crate::faults::{Fault, Faulty};
@@ -10,16 +11,18 @@ fn plan_of(tiers: &[(u64, u64)]) -> Plan {
     crate::one_schema(&tiers.iter().enumerate().map(tier).collect::<Vec<_>>())
 }
 
-/// `2 run 3`: a sample at 2, a run with the queries after it, a sample at 3.
+/// `2 run 3 open`: a sample at 2, a run with the queries after it, a sample at 3, an opening with
+/// the queries after it. Openings are handed no flag and all flags in turn.
 fn calls_of(plan: &Plan, words: &str) -> Vec<Call> {
     let mut calls = Vec::new();
-    for word in words.split(' ') {
+    for (i, word) in words.split(' ').enumerate() {
         if let Ok(stamp) = word.parse() {
             calls.push(crate::record(0, stamp, (1u64 << stamp) as f64));
-        } else {
-            calls.push(Call::Consolidate);
-            calls.extend((0..plan.0[0].tiers.len() as u32).map(crate::all_time));
+            continue;
         }
+        let handed = Some(if i % 2 == 0 { 0 } else { u32::MAX });
+        calls.push(if word == "run" { Call::Consolidate } else { Call::Open { handed } });
+        calls.extend((0..plan.0[0].tiers.len() as u32).map(crate::all_time));
     }
     calls
 }
@@ -28,9 +31,14 @@ fn calls_of(plan: &Plan, words: &str) -> Vec<Call> {
 fn tried(tiers: &[(u64, u64)], words: &str) -> (bool, bool) {
     let plan = plan_of(tiers);
     let calls = calls_of(&plan, words);
-    let runs = words.matches("run").count() * tiers.len();
+    // Runs, and openings after a run with no sample between.
+    let (mut ran, mut asked) = (false, 0);
+    for word in words.split(' ') {
+        ran = word == "run" || (ran && word == "open");
+        asked += ran as usize * tiers.len();
+    }
     let found = check(Plain, &plan, &calls);
-    assert!(found.as_ref().map_or(true, |&checked| checked == runs as u64));
+    assert!(found.as_ref().map_or(true, |&checked| checked == asked as u64));
     (supposed(&plan, &events(&plan, &calls)), found.is_ok())
 }
 
@@ -114,6 +122,33 @@ fn other_starts() {
     ] {
         assert_eq!(tried(tiers, words), (true, true));
         let plan = plan_of(tiers);
+        let found = check(Faulty(fault), &plan, &calls_of(&plan, words));
+        assert!(found.is_err(), "{fault:?} was not caught");
+    }
+}
+
+/// Request 2026-02: openings anywhere; by document 01's rule, and by others, the demand fails.
+#[test]
+fn openings_anywhere() {
+    for (tiers, words) in [
+        (&[(1, 4), (2, 2)][..], "2 3 run 4 open run"),
+        (&[(1, 4), (2, 2)], "open open 2 run open 3 open run open 4 open open run 5 run"),
+        (&[(1, 4), (2, 2)], "6 open 7 run open 8 run open 9 open run 10 open run"),
+        (&[(1, 8), (2, 4), (4, 2)], "open 4 open 5 6 run 7 open 8 open run 9 10 open 11 run open"),
+    ] {
+        assert_eq!(tried(tiers, words), (true, true), "{words}");
+    }
+    // A sample that an opening stands before is still a sample; a run still has to be there.
+    assert_eq!(tried(&[(1, 4), (2, 3)], "2 run 3 4 open 5 open 6 run"), (false, false));
+    assert!(!tried_supposition(&[(1, 4), (2, 2)], "open run 2 run"));
+    for (fault, words) in [
+        (Fault::FlagOfDocument01, "2 3 run 4 open run"),
+        (Fault::FlagNever, "2 3 run 4 open run"),
+        (Fault::FlagByTheNextSlot, "2 3 run 4 open run"),
+        (Fault::FlagFromHistory, "2 3 run 4 run run open"),
+    ] {
+        let plan = plan_of(&[(1, 4), (2, 2)]);
+        assert_eq!(tried(&[(1, 4), (2, 2)], words), (true, true));
         let found = check(Faulty(fault), &plan, &calls_of(&plan, words));
         assert!(found.is_err(), "{fault:?} was not caught");
     }

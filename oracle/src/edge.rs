@@ -1,7 +1,7 @@
 //! The proved library, through libedge.a (c-edge/include/rondo.h).
 
 use crate::calls::Answer;
-use crate::plain::{Flags, get64};
+use crate::plain::{Flags, flags_of, get64};
 use crate::sides::Library;
 
 unsafe extern "C" {
@@ -75,6 +75,7 @@ unsafe extern "C" {
     -> u32;
 }
 
+#[derive(Clone, Copy)]
 pub struct Edge;
 
 /// What stands in a lent word before a call: a refusal must leave it.
@@ -88,7 +89,7 @@ fn number(flags: &Flags) -> u32 {
 fn lending(flags: &mut Flags, call: impl FnOnce(&mut u32) -> u32) -> u32 {
     let mut lent = number(flags);
     let answer = call(&mut lent);
-    *flags = std::array::from_fn(|i| lent >> i & 1 == 1);
+    *flags = flags_of(lent);
     answer
 }
 

@@ -1,6 +1,7 @@
 //! Libraries with one fault each, set beside the plain reading as a third side would be:
 //! the driver must tell them apart. The faults are those that document 01 wants caught,
-//! its traps, and other starts of a reading than that of request 2026-01.
+//! its traps, other starts of a reading than that of request 2026-01, and other flags at opening
+//! than those of request 2026-02.
 
 use crate::calls::{Answer, Side};
 use crate::compare::{Tally, run, shrink};
@@ -31,9 +32,20 @@ pub enum Fault {
     StartsAtTheMark,
     StartsAfterTheMarksWindow,
     StartsAtTheOldest,
+    // What flag opening sets.
+    FlagOfDocument01,
+    FlagNever,
+    FlagAlways,
+    FlagByTheNextSlot,
+    FlagByTheCursorsSlot,
+    FlagButForTheLastSlot,
+    FlagByFourOfEight,
+    FlagsPastROpened,
+    RefusedOpeningSets,
 }
 use Fault::*;
 
+#[derive(Clone, Copy)]
 pub struct Faulty(pub Fault);
 
 impl Fault {
@@ -53,6 +65,42 @@ impl Fault {
             },
             StartsAtTheOldest => |_, _, oldest| oldest.unwrap_or(0),
             _ => plain::start_of,
+        }
+    }
+
+    fn flag(self) -> plain::WrapFlag {
+        // Cursor and slots, and a slot's stamp.
+        fn ends(slab: &[u8]) -> (usize, usize) {
+            (plain::get32(slab, 32) as usize, plain::get32(slab, 16) as usize)
+        }
+        fn stamped(slab: &[u8], slot: usize) -> bool {
+            plain::get64(slab, 64 + 4 * plain::get32(slab, 20) as usize + 8 * slot) != 0
+        }
+        match self {
+            FlagOfDocument01 => plain::old_wrap_flag,
+            FlagNever => |_| false,
+            FlagAlways => |_| true,
+            FlagByTheNextSlot => |slab| {
+                let (cursor, n) = ends(slab);
+                cursor + 1 < n && stamped(slab, cursor + 1)
+            },
+            FlagByTheCursorsSlot => |slab| {
+                let (cursor, n) = ends(slab);
+                (cursor..n).any(|slot| stamped(slab, slot))
+            },
+            FlagButForTheLastSlot => |slab| {
+                let (cursor, n) = ends(slab);
+                (cursor + 1..n - 1).any(|slot| stamped(slab, slot))
+            },
+            FlagByFourOfEight => |slab| {
+                let (cursor, n) = ends(slab);
+                let left_out = |slot: usize| {
+                    let (i, eights) = (slot - cursor - 1, (n - cursor - 1) / 8 * 8);
+                    i < eights && i % 8 >= 4
+                };
+                (cursor + 1..n).any(|slot| !left_out(slot) && stamped(slab, slot))
+            },
+            _ => plain::wrap_flag,
         }
     }
 
@@ -84,9 +132,14 @@ impl Library for Faulty {
 
     fn open(&self, image: &[u8], flags: &mut Flags) -> u32 {
         let history = *flags;
-        let number = Plain.open(image, flags);
+        let number = plain::open_by(image, flags, self.0.flag()).err().unwrap_or(0);
         if self.0 == FlagFromHistory {
             *flags = history;
+        }
+        if (self.0 == FlagsPastROpened && number == 0)
+            || (self.0 == RefusedOpeningSets && number != 0)
+        {
+            flags[31] = false;
         }
         number
     }
@@ -203,8 +256,9 @@ impl Library for Faulty {
 /// The number of calls in the smallest list that shows the fault.
 fn caught(fault: Fault) -> Option<usize> {
     let mut sides: Vec<Box<dyn Side>> = vec![Box::new(Lent::new("faulty", Faulty(fault)))];
-    for i in 0..300 {
-        let list = generate::list(&mut Random(i), 60, true);
+    for i in 0..600 {
+        let r = &mut Random(i / 2);
+        let list = if i % 2 == 0 { generate::list(r, 60, true) } else { generate::damaged(r) };
         if let Some(d) = run(&list, &mut sides, &mut Tally::default()) {
             return Some(shrink(&list, &mut sides, d).0.calls.len());
         }
@@ -224,7 +278,7 @@ fn each_fault_is_caught_and_no_other() {
         (AverageIsZero, 2),
         (NewestIsGreatest, 3),
         (ClearsOtherColumns, 2),
-        (FlagFromHistory, 3),
+        (FlagFromHistory, 1),
         (WritesPastTheImage, 1),
         (ChangesFlagsPastR, 1),
         (RefusedBatchStores, 1),
@@ -235,6 +289,15 @@ fn each_fault_is_caught_and_no_other() {
         (StartsAtTheMark, 4),
         (StartsAfterTheMarksWindow, 3),
         (StartsAtTheOldest, 4),
+        (FlagOfDocument01, 3),
+        (FlagNever, 3),
+        (FlagAlways, 1),
+        (FlagByTheNextSlot, 3),
+        (FlagByTheCursorsSlot, 2),
+        (FlagButForTheLastSlot, 3),
+        (FlagByFourOfEight, 3),
+        (FlagsPastROpened, 1),
+        (RefusedOpeningSets, 2),
     ] {
         let calls = caught(fault).unwrap_or_else(|| panic!("{fault:?} was not caught"));
         println!("{fault:?}: {calls} calls");

@@ -7,6 +7,7 @@ mod edge;
 #[cfg(test)]
 mod faults;
 mod generate;
+mod opened;
 mod plain;
 mod sides;
 mod special;
@@ -14,7 +15,7 @@ mod stored;
 
 use std::time::Instant;
 
-use calls::{Call, Plan, Schema, Side, Tier};
+use calls::{Call, OPEN, Plan, Schema, Side, Tier};
 use compare::{List, Tally, run, show, shrink};
 use generate::Random;
 
@@ -115,7 +116,7 @@ fn exhaustive(s: &mut Session) {
         let mut stock: Vec<Call> =
             [1, 2, 3, 4, 5, 6, 7, 9].map(|t| record(0, t, t as f64)).to_vec();
         stock.push(record(1, 4, f64::NAN));
-        stock.push(Call::Open);
+        stock.push(OPEN);
         generate::every(&one_schema(&[(2, n, 0)]), &stock, 3, |mut list| {
             list.calls.extend(end.clone());
             s.list(list)
@@ -127,7 +128,7 @@ fn exhaustive(s: &mut Session) {
             for k in 1..=3 {
                 let mut stock: Vec<Call> =
                     [1, 2, 3, 4, 5, 7].map(|t| record(t as u32 % 2, t, t as f64)).to_vec();
-                stock.extend([Call::Consolidate, Call::Open]);
+                stock.extend([Call::Consolidate, OPEN]);
                 generate::every(
                     &one_schema(&[(fine, n, 0), (coarse, k, 1)]),
                     &stock,
@@ -165,7 +166,7 @@ fn exhaustive_any_series(s: &mut Session) {
         let raw = Some((plan.bytes(|_| 7), sides::room(&plan)));
         let mut stock: Vec<Call> =
             [1, 2, 3, 4, 5, 7].map(|t| record(t as u32 % series, t, t as f64)).to_vec();
-        stock.extend([Call::Consolidate, Call::Open]);
+        stock.extend([Call::Consolidate, OPEN]);
         generate::every(&plan, &stock, 4, |mut list| {
             list.raw.clone_from(&raw);
             list.calls.extend([all_time(0), all_time(1)]);
@@ -217,13 +218,21 @@ fn parts(s: &mut Session, seed: u64, lists: u64, length: u64) {
     s.part("damaged", |s| each(s, 10 * lists, &generate::damaged));
     s.part("long", |s| each(s, lists / 100, &generate::long));
     s.part("large", special::large);
+    let mut sides = opened::both();
+    s.part("power cycles", |s| {
+        for i in 0..lists / 4 {
+            opened::power_cycles(s, &mut sides, &mut random(i), length);
+        }
+    });
+    s.part("power cycles, exhaustive", |s| opened::every_power_cycle(s, &mut sides));
+    s.part("flags", special::flags);
     s.part("third demand", |s| {
         for i in 0..lists / 20 {
             demand::third_demand(s, &mut random(i));
         }
         demand::third_demand_large(s);
     });
-    s.part("schedules", demand::schedules);
+    s.part("schedules", |s| demand::schedules(s, &mut sides));
     s.alone("openings", special::openings);
     s.alone("hash order", special::hash_order);
     s.alone("departures", special::departures);
@@ -262,6 +271,25 @@ fn main() {
     let found: u64 = done.iter().map(|d| d.1).sum();
     println!("refusals 1 to 16: {:?}", &t.refusals[1..]);
     println!("{} points handed out, {} calls not asked of a side", t.points, t.not_asked);
+    println!(
+        "openings: {} refused, {} accepted; the old rule sets the same flags at {}: {} run beside the Rust, {} in lists \
+         for lent bytes only, {} after the Rust had left; other flags at {}: beside the plain reading alone",
+        t.not_opened,
+        t.opened,
+        t.opened - t.parted,
+        t.beside,
+        t.lent_only,
+        t.opened - t.parted - t.beside - t.lent_only,
+        t.parted
+    );
+    println!(
+        "of these {}: {} set a flag that the old rule does not, {} the reverse; the Rust's flags seen to be the old rule's at {}, it came back at {} others",
+        t.parted, t.only_new, t.only_old, t.seen_old, t.returned
+    );
+    println!(
+        "openings taken out: {} lists, {} openings, {} answers alike",
+        t.cycled, t.taken_out, t.alike
+    );
     println!(
         "third demand: {} queries checked; of {} schedules outside its supposition {} break it",
         t.demanded, t.outside, t.broken

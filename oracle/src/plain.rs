@@ -1,6 +1,6 @@
-//! A second reading of document 01, with request 2026-01 of document 02 in the place of the
-//! sentence that it alters, in plain Rust: written from the documents alone, so that it can
-//! stand beside rondo and beside the proved library. Clear before fast.
+//! A second reading of document 01, with requests 2026-01 and 2026-02 of document 02 in the place
+//! of the sentences that they alter, in plain Rust: written from the documents alone, so that it
+//! can stand beside rondo and beside the proved library. Clear before fast.
 //!
 //! A refusal is its number in document 01's table. The image is a byte slice, the flags a
 //! record of 32 wrap flags beside it. No call looks past the image or past flag R - 1.
@@ -8,6 +8,11 @@
 use std::collections::BTreeSet;
 
 pub type Flags = [bool; 32];
+
+/// The flags of a number: bit i is row i's.
+pub fn flags_of(number: u32) -> Flags {
+    std::array::from_fn(|i| number >> i & 1 == 1)
+}
 
 pub const BAD_IMAGE: u32 = 1;
 pub const NO_TIERS: u32 = 2;
@@ -267,16 +272,30 @@ fn fresh_slab(slab: &mut [u8], row: &Row) {
     }
 }
 
+/// A ring's flag at opening, from its slab alone.
+pub type WrapFlag = fn(&[u8]) -> bool;
+
+/// By request 2026-02: some slot numbered above the cursor has a nonzero stamp.
+pub fn wrap_flag(slab: &[u8]) -> bool {
+    (cursor(slab) + 1..slots(slab)).any(|slot| stamp(slab, slot) != 0)
+}
+
+/// By document 01, as `RingBuffer::new` sets it: cursor 0, more than one slot and stamp 1 nonzero;
+/// or cursor above 0 and the stamp after it (mod n) nonzero.
+pub fn old_wrap_flag(slab: &[u8]) -> bool {
+    let (n, cursor) = (slots(slab), cursor(slab));
+    if cursor == 0 { n > 1 && stamp(slab, 1) != 0 } else { stamp(slab, (cursor + 1) % n) != 0 }
+}
+
 pub fn open(image: &[u8], flags: &mut Flags) -> Result<(), u32> {
+    open_by(image, flags, wrap_flag)
+}
+
+/// The same by any flag of a slab: document 01's stands beside the Rust, others are faults.
+pub fn open_by(image: &[u8], flags: &mut Flags, flag: WrapFlag) -> Result<(), u32> {
     let c = check(image)?;
     for (i, row) in c.rows.iter().enumerate() {
-        let slab = &image[row.place()];
-        let (n, cursor) = (slots(slab), cursor(slab));
-        flags[i] = if cursor == 0 {
-            n > 1 && stamp(slab, 1) != 0
-        } else {
-            stamp(slab, (cursor + 1) % n) != 0
-        };
+        flags[i] = flag(&image[row.place()]);
     }
     Ok(())
 }

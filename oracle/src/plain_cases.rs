@@ -1,4 +1,5 @@
-//! Document 01's marked cases A to L, the rows of request 2026-01, and the order of the refusals.
+//! Document 01's marked cases A to L, the rows of requests 2026-01 and 2026-02, and the order of
+//! the refusals.
 
 use super::*;
 use crate::calls::{Plan, Schema, Tier, entry_bytes};
@@ -217,16 +218,73 @@ fn k_window_0_is_refused() {
     assert!(s == before);
 }
 
+/// A ring of so many slots, interval 10, after samples at these stamps.
+fn ring_after(slots: u64, stamps: &[u64]) -> (Vec<u8>, Flags) {
+    let mut s = made(&plan_of(&[(10, slots, 0)]));
+    stamps.iter().for_each(|&stamp| put(&mut s, stamp, 1.0));
+    s
+}
+
+fn stamps(s: &(Vec<u8>, Flags)) -> Vec<u64> {
+    read(s, 0, ALL).iter().map(|p| p.0).collect()
+}
+
 #[test]
-fn l_reopened_it_reads_less() {
-    let mut s = made(&plan_of(&[(10, 10, 0)]));
-    for stamp in (50..=110).step_by(10) {
-        put(&mut s, stamp, 1.0);
-    }
-    let stamps = |s: &(Vec<u8>, Flags)| read(s, 0, ALL).iter().map(|p| p.0).collect::<Vec<_>>();
+fn l_reopened_it_reads_the_same() {
+    let mut s = ring_after(10, &[50, 60, 70, 80, 90, 100, 110]);
     assert_eq!(stamps(&s), [50, 60, 70, 80, 90, 100, 110]);
-    open(&s.0, &mut s.1).unwrap();
+    // Request 2026-02, whatever flags are handed.
+    for handed in [true, false] {
+        s.1 = [handed; 32];
+        open(&s.0, &mut s.1).unwrap();
+        assert_eq!(s.1.iter().position(|&f| f != handed), (!handed).then_some(0));
+        assert_eq!(stamps(&s), [50, 60, 70, 80, 90, 100, 110]);
+    }
+    // Document 01: 100 and 110 only.
+    open_by(&s.0, &mut s.1, old_wrap_flag).unwrap();
     assert_eq!(stamps(&s), [100, 110]);
+}
+
+/// Request 2026-02: the flag before opening, after it, and by document 01's rule; the points stay.
+#[test]
+fn flags_at_opening() {
+    for (slots, samples, flags) in [
+        (1, &[][..], [false, false, false]),
+        (1, &[10, 20, 30], [false, false, false]),
+        (2, &[10], [false, false, false]),
+        (2, &[10, 20], [true, true, true]),
+        // The cursor on the last slot: nothing stands above it.
+        (2, &[10, 20, 30], [true, false, true]),
+        (4, &[40, 50, 60, 70], [false, false, true]),
+        (4, &[10, 20, 30, 40, 50], [true, true, true]),
+        // From the middle of the ring on, past slot 0, with slots between still fresh.
+        (4, &[20, 30, 40], [true, true, false]),
+        (4, &[30, 40, 50], [true, true, false]),
+        (4, &[20], [false, false, false]),
+        // An interval skipped; a stamp out of order.
+        (4, &[10, 30, 40], [true, true, true]),
+        (4, &[30, 10], [true, true, false]),
+        (5, &[40, 10], [true, true, false]),
+        (5, &[40, 10, 40], [true, false, false]),
+    ] {
+        let mut s = ring_after(slots, samples);
+        let (before, points) = (s.1[0], stamps(&s));
+        open(&s.0, &mut s.1).unwrap();
+        let after = s.1[0];
+        assert_eq!(stamps(&s), points, "{slots} {samples:?}");
+        open_by(&s.0, &mut s.1, old_wrap_flag).unwrap();
+        assert_eq!([before, after, s.1[0]], flags, "{slots} {samples:?}");
+    }
+}
+
+/// Flags that are not as left are another matter: opening may show more than they did.
+#[test]
+fn flags_not_as_left() {
+    let mut s = ring_after(4, &[10, 20, 30, 40, 50]);
+    s.1[0] = false;
+    assert_eq!(stamps(&s), [40, 50]);
+    open(&s.0, &mut s.1).unwrap();
+    assert_eq!(stamps(&s), [20, 30, 40, 50]);
 }
 
 #[test]

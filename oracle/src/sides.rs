@@ -51,6 +51,7 @@ pub trait Library {
 }
 
 /// The plain reading of document 01.
+#[derive(Clone, Copy)]
 pub struct Plain;
 
 impl Library for Plain {
@@ -182,7 +183,10 @@ impl<L: Library> Side for Lent<L> {
                 library.next(&image[part.0.min(to)..to], column, range, place)
             }
             Call::Consolidate => library.consolidate(image, flags),
-            Call::Open => answered(library.open(image, flags)),
+            &Call::Open { handed } => {
+                *flags = handed.map_or(*flags, plain::flags_of);
+                answered(library.open(image, flags))
+            }
             &Call::Poke { row, cell } => {
                 poke(image, row, cell);
                 Answer::Done

@@ -1,11 +1,11 @@
 //! Writes the list of calls that the program `replay` carries out, with the Rust's answers, and
 //! what that program must print. How the list is laid out: ../../crates/replay/README.md.
 
-use crate::calls::{Answer, Call, Cell, Kind, Plan, Schema, Side, Tier, entry_bytes};
+use crate::calls::{Answer, Call, Cell, Kind, OPEN, Plan, Schema, Side, Tier, entry_bytes};
 use crate::compare::{Asked, List, asked};
 use crate::demand::{self, Schedule};
 use crate::generate::{self, INFINITY, Random};
-use crate::plain::{Flags, HEADER, ROW, get64, put64};
+use crate::plain::{self, Flags, HEADER, ROW, get64, put64};
 use crate::sides::{Lent, Plain, ordered, published};
 use crate::special;
 
@@ -18,6 +18,15 @@ fn sum(bytes: &[u8]) -> u64 {
     bytes.iter().fold(0, |sum, &b| (sum * 257 + b as u64 + 1) % 4_294_967_291)
 }
 
+/// Whether document 01's rule would set other flags at an opening of this image.
+fn rules_part(image: &[u8]) -> bool {
+    let by = |rule: plain::WrapFlag| {
+        let mut flags = [false; 32];
+        plain::open_by(image, &mut flags, rule).map(|()| flags)
+    };
+    by(plain::wrap_flag) != by(plain::old_wrap_flag)
+}
+
 /// What the list has in it, so that nothing is left out unseen.
 #[derive(Default)]
 pub struct Stock {
@@ -27,6 +36,10 @@ pub struct Stock {
     pub wrapped: u64,
     pub several: u64,
     pub points: u64,
+    /// Openings accepted, those of them that set a flag, and those left out.
+    pub openings: u64,
+    pub set: u64,
+    pub left_out: u64,
 }
 
 struct Writer {
@@ -131,8 +144,16 @@ impl Writer {
 
     /// False where the Rust cannot follow any more.
     fn ask(&mut self, call: &Call, leader: &mut Lent<Plain>) -> bool {
+        // The program hands its flags as left.
+        let call = if matches!(call, Call::Open { .. }) { &OPEN } else { call };
+        // Where document 01's rule and request 2026-02's set other flags, the Rust has no answer to
+        // store: the opening stays out, for all sides.
+        if *call == OPEN && rules_part(leader.state().lent.unwrap().0) {
+            self.stock.left_out += 1;
+            return true;
+        }
         let ours = leader.call(call);
-        let damaged = *call == Call::Open && ours == Answer::Refused(10);
+        let damaged = *call == OPEN && ours == Answer::Refused(10);
         match asked(Kind::Store, call, &ours) {
             Asked::Yes => {}
             Asked::Stop if damaged => {}
@@ -168,7 +189,11 @@ impl Writer {
     fn item(&mut self, call: &Call, answer: &Answer, refused: u32) {
         let words = |xs: &[u64]| xs.iter().flat_map(|x| x.to_le_bytes()).collect::<Vec<u8>>();
         match call {
-            Call::Open => self.call(2, refused, &[]),
+            Call::Open { .. } => {
+                self.stock.openings += (refused == 0) as u64;
+                self.stock.set += (refused == 0 && self.flags[..self.rows].contains(&true)) as u64;
+                self.call(2, refused, &[]);
+            }
             &Call::Record { schema, column, value, stamp } => {
                 self.call(3, refused, &words(&[schema as u64, column as u64, value, stamp]));
             }
@@ -240,10 +265,11 @@ fn openings() -> Vec<List> {
     let plan = one(2, &[(10, 4, 0), (20, 3, 1)]);
     let each = [(0, 0, 0), (0, 3, 1), (1, 2, 5), (1, 4, 0), (0, 40, 7), (1, 64, 9)];
     let list = |&(row, at, byte): &(usize, usize, u8)| {
-        let mut calls: Vec<Call> = (2..8).map(|k| crate::record(0, 10 * k, k as f64)).collect();
-        calls.extend([Call::Consolidate, Call::Open, query(0, 0), query(0, 1)]);
+        // Up to 60: at the opening after them both rules set the flag, of both rings.
+        let mut calls: Vec<Call> = (2..7).map(|k| crate::record(0, 10 * k, k as f64)).collect();
+        calls.extend([Call::Consolidate, OPEN, query(0, 0), query(0, 1)]);
         calls.push(Call::Poke { row, cell: Cell::Loose { at, byte } });
-        calls.extend([Call::Open, query(0, 0)]);
+        calls.extend([OPEN, query(0, 0)]);
         List::new(plan.clone(), calls)
     };
     each.iter().map(list).collect()
@@ -280,6 +306,12 @@ fn scheduled(r: &mut Random, schedule: Schedule, intervals: &[u64], ticks: u64) 
     list
 }
 
+/// Stores that are opened again and again, as far as the Rust can be asked.
+fn cycles(random: &dyn Fn(u64) -> Random) -> Vec<List> {
+    let each = (2000..).map(|i| generate::cycles(&mut random(i)));
+    each.filter(|list| list.raw.is_none()).take(40).collect()
+}
+
 /// A few of the short lists over small stocks.
 fn short(r: &mut Random) -> Vec<List> {
     let mut found = Vec::new();
@@ -287,7 +319,7 @@ fn short(r: &mut Random) -> Vec<List> {
         for n in 1..=4 {
             let mut stock: Vec<Call> =
                 [1, 2, 3, 4, 5, 7].map(|t| crate::record(t as u32 % 2, t, t as f64)).to_vec();
-            stock.extend([Call::Consolidate, Call::Open]);
+            stock.extend([Call::Consolidate, OPEN]);
             let plan = one(2, &[(fine, n, 0), (coarse, 1 + n % 3, 1)]);
             for _ in 0..6 {
                 let mut calls: Vec<Call> =
@@ -319,7 +351,7 @@ pub fn write(folder: &str, seed: u64) {
     let random = |i: u64| Random(seed.wrapping_mul(1 << 40).wrapping_add(i));
     let second = 1_000_000_000;
     let groups: Vec<(&str, Vec<List>)> = vec![
-        ("cases A to L and those of 2026-01", special::case_lists()),
+        ("cases A to L and those of the requests", special::case_lists()),
         ("plans", (0..400).map(|i| generate::odd_plan(&mut random(i))).collect()),
         ("short lists", short(&mut r)),
         ("openings", openings()),
@@ -354,6 +386,7 @@ pub fn write(folder: &str, seed: u64) {
             (0..40).map(|i| generate::list(&mut random(i), 40, false)).collect(),
         ),
         ("poked", (0..40).map(|i| generate::list(&mut random(1000 + i), 40, true)).collect()),
+        ("opened again and again", cycles(&random)),
     ];
     for (name, lists) in groups {
         lists.iter().for_each(|l| w.list(l));
@@ -365,6 +398,7 @@ pub fn write(folder: &str, seed: u64) {
         assert!(s.refusals[n] > 0, "no refusal {n} in the list");
     }
     assert!(s.functions[1..].iter().all(|&n| n > 0) && s.wrapped > 0 && s.several > 0);
+    assert!(s.openings > s.set && s.set > 0);
     std::fs::write(format!("{folder}/stdin"), &w.bytes).unwrap();
     std::fs::write(format!("{folder}/stdout"), &w.printed).unwrap();
     print!("{}", w.printed);
@@ -372,5 +406,9 @@ pub fn write(folder: &str, seed: u64) {
     println!(
         "tiers by function 0 to 6: {:?}; {} calls with a wrapped ring, {} runs with several writes, {} points",
         s.functions, s.wrapped, s.several, s.points
+    );
+    println!(
+        "{} openings accepted, {} of them set a flag; left out, since the rules part: {}",
+        s.openings, s.set, s.left_out
     );
 }
