@@ -23,6 +23,10 @@ pub trait Side {
     fn create(&mut self, plan: &Plan);
     /// Opens again what was created.
     fn open(&mut self);
+    /// Lets the store go and holds its rings, for `flags`.
+    fn hold(&mut self) {}
+    /// Works out the wrap flags of the rings that are held. No file is opened.
+    fn flags(&mut self);
     fn record(&mut self, column: u32, value: f64, stamp: u64);
     /// The entries of the batches to come: a value for each column of schema 0.
     fn entries(&mut self, series: u32);

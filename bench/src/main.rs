@@ -28,6 +28,11 @@ fn rings(schemas: u32, tiers: u64) -> Plan {
     Plan { schemas, series: 2, tiers: (0..tiers).map(tier).collect() }
 }
 
+/// One ring of so many seconds.
+fn ring_of(slots: u64) -> Plan {
+    Plan { schemas: 1, series: 2, tiers: vec![Tier { interval: SECOND, slots, function: 0 }] }
+}
+
 type Step = Box<dyn Fn(&mut dyn Side)>;
 type Turn = Box<dyn Fn(&mut dyn Side, u64)>;
 
@@ -62,6 +67,44 @@ fn seconds(side: &mut dyn Side, from: u64, count: u64) {
 fn three_hours(side: &mut dyn Side) {
     side.entries(2);
     seconds(side, 0, 10_800);
+}
+
+/// Every ring of `three` full and wrapped: a second in each 61 minutes, so that every minute and hour comes up in 61 days,
+/// then more seconds than their ring has slots.
+fn all_wrapped(side: &mut dyn Side) {
+    side.entries(2);
+    for i in 0..1440 {
+        side.batch(at(61 * 60 * i));
+        side.consolidate();
+    }
+    seconds(side, 61 * 60 * 1440, 9000);
+    side.consolidate();
+}
+
+/// A ring of a million seconds, wrapped.
+fn more_than_a_million(side: &mut dyn Side) {
+    side.entries(2);
+    seconds(side, 0, 1_000_100);
+}
+
+/// The flags that opening works out, in rings as `fill` leaves them. The Rust's part is `RingBuffer::new` alone, which looks
+/// at one slot a ring; ours is the whole opening, with the check of the image.
+fn flags(name: &'static str, turns: u64, counted: u64, plan: Plan, fill: Step) -> Measure {
+    Measure {
+        name,
+        unit: "an opening",
+        turns,
+        per_turn: 1,
+        counted,
+        plan,
+        setup: Box::new(move |side| {
+            fill(side);
+            side.hold();
+            side.flags();
+        }),
+        before: None,
+        turn: Box::new(|side, _| side.flags()),
+    }
 }
 
 /// A run after `new` seconds, in a full ring of `slots` seconds.
@@ -175,6 +218,12 @@ fn measures() -> Vec<Measure> {
         nothing_new,
         base("creation", 50, 10, three(2), Box::new(|side, _| side.create(&three(2)))),
         query("opening", 50, Box::new(|side, _| side.open())),
+        flags("flags of 3 fresh rings", 2000, 10, three(2), Box::new(|_| ())),
+        // many turns, since the Rust's runs before them take now some more instructions, now some fewer
+        flags("flags of 3 wrapped rings", 2000, 20_000, three(2), Box::new(all_wrapped)),
+        flags("flags of a fresh ring of 3,600 slots", 2000, 10, ring_of(3600), Box::new(|_| ())),
+        flags("flags of a fresh ring of 10^6 slots", 100, 10, ring_of(1_000_000), Box::new(|_| ())),
+        flags("flags of a wrapped ring of 10^6 slots", 2000, 10, ring_of(1_000_000), Box::new(more_than_a_million)),
     ]
 }
 

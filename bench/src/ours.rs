@@ -101,6 +101,10 @@ impl Side for Ours {
         assert_eq!(unsafe { rondo_open(self.image.as_ptr(), self.image.len(), &mut self.flags) }, 0);
     }
 
+    fn flags(&mut self) {
+        self.open();
+    }
+
     fn record(&mut self, column: u32, value: f64, stamp: u64) {
         let i = &mut self.image;
         let done = unsafe { rondo_record(i.as_mut_ptr(), i.len(), &mut self.flags, 0, column, value.to_bits(), stamp) };

@@ -1,10 +1,14 @@
 //! The published Rust with request 2026-01's line altered, on files in memory (/dev/shm).
+use std::hint::black_box;
+use std::mem::take;
 use std::path::PathBuf;
 use std::time::Duration;
 
 use rondo::consolidate::ConsolidationCursors;
+use rondo::ring::RingBuffer;
 use rondo::schema::{ConsolidationFn, LabelMatcher, SchemaConfig, TierConfig};
 use rondo::series::SeriesHandle;
+use rondo::slab::Slab;
 use rondo::store::Store;
 
 use crate::calls::{Plan, Side};
@@ -13,6 +17,7 @@ pub struct Published {
     dir: PathBuf,
     configs: Vec<SchemaConfig>,
     store: Option<Store>,
+    slabs: Vec<Slab>,
     entries: Vec<(SeriesHandle, f64)>,
 }
 
@@ -21,7 +26,7 @@ impl Published {
         let base = std::env::var("BENCH_DIR").unwrap_or("/dev/shm".into());
         let dir = PathBuf::from(base).join(format!("bench-{}", std::process::id()));
         let _ = std::fs::remove_dir_all(&dir);
-        Self { dir, configs: Vec::new(), store: None, entries: Vec::new() }
+        Self { dir, configs: Vec::new(), store: None, slabs: Vec::new(), entries: Vec::new() }
     }
 
     fn store(&mut self) -> &mut Store {
@@ -40,6 +45,7 @@ fn read(points: impl Iterator<Item = (u64, f64)>) -> (u64, f64) {
 impl Side for Published {
     fn create(&mut self, plan: &Plan) {
         self.store = None;
+        self.slabs.clear();
         let _ = std::fs::remove_dir_all(&self.dir);
         let tiers: Vec<TierConfig> = (plan.tiers.iter())
             .map(|t| TierConfig {
@@ -61,6 +67,20 @@ impl Side for Published {
     fn open(&mut self) {
         self.store = None;
         self.store = Some(Store::open(&self.dir, self.configs.clone()).unwrap());
+    }
+
+    fn hold(&mut self) {
+        self.store = None;
+        for (s, config) in self.configs.iter().enumerate() {
+            let tiers = 0..config.tiers.len();
+            let path = |t| self.dir.join(format!("schema_{s}")).join(format!("tier_{t}.slab"));
+            self.slabs.extend(tiers.map(|t| Slab::open(path(t)).unwrap()));
+        }
+    }
+
+    fn flags(&mut self) {
+        let again = |slab| black_box(RingBuffer::new(slab)).into_slab();
+        self.slabs = take(&mut self.slabs).into_iter().map(again).collect();
     }
 
     fn record(&mut self, column: u32, value: f64, stamp: u64) {

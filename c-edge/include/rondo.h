@@ -128,7 +128,10 @@ uint32_t rondo_create(const uint8_t *plan, size_t plan_len,
                       uint8_t *image, size_t image_len, uint32_t *flags);
 
 /*
- * Checks an image and works out the flags of its rows, for an image whose flags were not kept.
+ * Checks an image and works out the flags of its rows, for an image whose flags were not kept, as
+ * after a power cycle: a row's flag is 1 where some slot numbered above its ring's cursor has a
+ * stamp that is not 0. What these calls wrote, from rondo_create on and with the flags as each of
+ * them left them, is read after it as before it. Reads up to 8 bytes for each slot above a cursor.
  * Flags past the rows stay. Refuses 1 to 8 and 10, as every call below does before its own refusals.
  */
 uint32_t rondo_open(const uint8_t *image, size_t image_len, uint32_t *flags);
