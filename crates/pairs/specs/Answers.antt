@@ -20,6 +20,7 @@ use Rattle.model.specs.Ring.{Ring, stamp, cell, isNaN, isInfinite}
 use Rattle.model.specs.Window.{Job, apply, windowOf, heldValue, held, heldIn, seenOne, seen, keepFinite, finites, answerOf, windowAnswer}
 use Rattle.laws.specs.Tests.{yes-le, yes-lt, yes-eq, no-eq}
 use Rattle.rings.specs.Numbers.{upto, slotsOf, div-is}
+use Rattle.rings.specs.Walk.{held-append}
 use Rattle.rings.specs.Sound.{some-slots}
 use Rattle.rings.specs.Column.{Col}
 use Rattle.rings.specs.Hold.{State, firstHeld, Reads, reads}
@@ -59,11 +60,6 @@ finite-answer f X q (suc k) z h =
     some s = let e : 1 + s ≡ suc s = omega arith in rw e
 
 -- ---- what slots hold, one stretch behind the other
-
-held-append : (q : Job) (w c : ℕ) (is js : List ℕ) → heldIn q w c (is ++ js) ≡ heldIn q w c is ++ heldIn q w c js
-unfolding heldIn
-held-append q w c [] js = refl
-held-append q w c (i ∷ is) js = ap (λ (l : List Held). held q w (stamp (q .source .slab) i) (cell (q .source .slab) c i) ∷ l) (held-append q w c is js)
 
 seen-append : (hs ks : List Held) → seen (hs ++ ks) ≡ seen hs + seen ks
 unfolding seen

@@ -1,4 +1,5 @@
 pub mod Numbers
+pub mod Walk
 pub mod Write
 pub mod Sound
 pub mod Points

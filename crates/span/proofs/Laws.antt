@@ -9,8 +9,9 @@ use lib.Dec.{leb}
 use Rattle.model.specs.Ring.{stamp, walk}
 use Rattle.model.specs.Window.{Job}
 use Rattle.laws.specs.Tests.{yes-le, no-le}
-use Rattle.span.specs.Parts.{inRange, isFrom, from, rising, steps}
-use Rattle.span.specs.Rest.{from-stop, from-pass, walk-split}
+use Rattle.rings.specs.Walk.{steps, walk-split}
+use Rattle.span.specs.Parts.{inRange, isFrom, from, rising}
+use Rattle.span.specs.Rest.{from-stop, from-pass}
 
 -- ---- a stamp from a limit on
 

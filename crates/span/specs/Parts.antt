@@ -1,5 +1,5 @@
 -- The words of the contracts: the slots from a limit on, stamps that never fall, and what a place passes over. Assumes nothing.
-use Prim.Native.Nat.{ℕ, zero, suc, _+_, _-_, _%_, _≤_, _<_}
+use Prim.Native.Nat.{ℕ, suc, _+_, _-_, _%_, _≤_, _<_}
 use mathlib.Core.Path.{_≡_}
 use mathlib.Core.Bool.{Bool, true, _&&_, cond}
 use mathlib.Core.List.{List, [], _∷_, _++_}
@@ -7,6 +7,7 @@ use lib.Dec.{leb, ltb}
 use Rattle.model.specs.declared.Place.{Place}
 use Rattle.model.specs.Ring.{stamp, walk}
 use Rattle.model.specs.Window.{Job, windowOf}
+use Rattle.rings.specs.Walk.{steps}
 use Rattle.span.specs.declared.Run.{Run}
 
 -- a stamp from start up to end
@@ -28,11 +29,6 @@ rising q low [] = true
 rising q low (i ∷ is) =
     let t = stamp (q .source .slab) i in
     cond (inRange (q .start) (q .end) t) (leb low t && rising q t is) (rising q low is)
-
--- the slot k behind slot i, round a ring of n
-unfoldable pub steps : ℕ → ℕ → ℕ → ℕ
-steps n i zero = i
-steps n i (suc k) = suc (steps n i k) % n
 
 -- the place r is the place p with the slots before the limit passed over
 pub record Skipped (q : Job) (n limit : ℕ) (p r : Place) : Type 0 where

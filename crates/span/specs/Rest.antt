@@ -1,7 +1,7 @@
 -- A source read in order. Where its stamps in the range never fall in reading order, the windows that the search finds are those of the runs, in their order:
 -- the window of the first slot that is left is the next one found, the slots up to the first of a later window have all that it has, and as many turns as
 -- there are slots are enough. Assumes nothing.
-use Prim.Native.Nat.{ℕ, zero, suc, _+_, _-_, _*_, _/_, _%_, _≤_, _<_}
+use Prim.Native.Nat.{ℕ, zero, suc, _+_, _-_, _*_, _/_, _≤_, _<_}
 use native.Mathlib.Nat.{zero-add, mul-le-mul-right, le-div-iff-mul-le, div-mul-le-self, suc-mul}
 use native.Mathlib.Omega.{arith}
 use native.Mathlib.Decide.{decLt}
@@ -15,27 +15,13 @@ use Rattle.model.specs.declared.End.{End}
 use Rattle.model.specs.declared.End.the-variants.{At, Missing}
 use Rattle.model.specs.declared.Held.{Held}
 use Rattle.model.specs.declared.Held.the-variants.{Outside}
-use Rattle.model.specs.Ring.{stamp, cell, walk, slots, order}
+use Rattle.model.specs.Ring.{stamp, cell, slots, order}
 use Rattle.model.specs.Window.{Job, windowOf, held, heldIn, seenOne, seen, keepFinite, finites, windowAnswer}
 use Rattle.model.specs.Consolidate.{Filled, lower, lowerIf, isNext, leastFrom, nextWindow, windowsFrom, windows, fillWindow, fill}
 use Rattle.laws.specs.Tests.{yes-le, yes-lt, no-le, no-lt, le-is, lt-is, and-left, and-right}
 use Rattle.window.specs.Parts.{along}
 use Rattle.window.proofs.Laws.{before-start, past-end, other-window}
-use Rattle.span.specs.Parts.{inRange, isFrom, from, rising, steps}
-
--- ---- a walk in two parts
-
-steps-on : (n i k : ℕ) → steps n (suc i % n) k ≡ steps n i (suc k)
-unfolding steps
-steps-on n i zero = refl
-steps-on n i (suc k) = ap (λ (x : ℕ). suc x % n) (steps-on n i k)
-
-pub walk-split : (n i k j : ℕ) → walk n i (k + j) ≡ walk n i k ++ walk n (steps n i k) j
-unfolding walk
-walk-split n i zero j = ap (walk n i) (zero-add j) ∙ unfold steps in refl
-walk-split n i (suc k) j =
-    let e : suc k + j ≡ suc (k + j) = omega arith in
-    ap (walk n i) e ∙ ap (λ (l : List ℕ). i ∷ l) (walk-split n (suc i % n) k j ∙ ap (λ (x : ℕ). walk n (suc i % n) k ++ walk n x j) (steps-on n i k))
+use Rattle.span.specs.Parts.{inRange, isFrom, from, rising}
 
 -- ---- the windows of stamps
 

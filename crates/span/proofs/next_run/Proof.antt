@@ -5,7 +5,8 @@ use native.Mathlib.Omega.{arith}
 use Rattle.model.specs.Ring.{walk}
 use Rattle.model.specs.Window.{windowOf}
 use Rattle.window.specs.Parts.{jobIn}
-use Rattle.span.specs.Parts.{from, steps}
+use Rattle.rings.specs.Walk.{steps}
+use Rattle.span.specs.Parts.{from}
 use Rattle.span.proofs.Laws.{run-split}
 use borrow.Author.Needs.{needs}
 use Rattle.span.proofs.next_run.Statement.{statement}

@@ -5,7 +5,8 @@ use native.Mathlib.Omega.{arith}
 use native.Mathlib.Nat.{sub-self}
 use Rattle.model.specs.Ring.{walk}
 use Rattle.window.specs.Parts.{jobIn}
-use Rattle.span.specs.Parts.{from, steps}
+use Rattle.rings.specs.Walk.{steps}
+use Rattle.span.specs.Parts.{from}
 use Rattle.span.proofs.Laws.{skip-none, skip-here, skip-turn, step-more}
 use borrow.Author.Needs.{needs}
 use Rattle.span.proofs.skip.Statement.{statement}
