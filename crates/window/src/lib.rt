@@ -1,12 +1,12 @@
-// A window's answer for one column of a source: two passes over slots in ring order, one for the counts and one for the fold of the finite values; then no
-// value, a number, or NaN because nothing finite remained. The caller says which slots: the whole reading order, or a run of it that has all of the window.
-// `gather_values` alone says what the passes find, so that another way to find it changes nothing else.
+// A window's answer for one column of a source: one pass over slots in ring order gathers the counts and the fold of the finite values; then no value, a
+// number, or NaN because nothing finite remained. The caller says which slots: the whole reading order, or a run of it that has all of the window.
+// `gather_values` alone says what the pass finds, so that another way to find it changes nothing else.
 ghost use mathlib.Core.Path.{_≡_};
-ghost use Prim.Native.Nat.{_+_, _<_, _≤_};
-ghost use mathlib.Core.List.{[]};
+ghost use Prim.Native.Nat.{_<_, _≤_};
 ghost use Rattle.model.specs.Ring.{stamp, cell, walk};
-ghost use Rattle.model.specs.Window.{windowOf, heldValue, held, heldIn, keepFinite, fold, foldStart, finites};
-ghost use Rattle.window.specs.Parts.{Readable, Asked, jobIn, Counted, Counts, gather, along, Fine};
+ghost use Rattle.model.specs.Window.{windowOf, heldValue, held, heldIn};
+ghost use Rattle.window.specs.Parts.{Readable, Asked, jobIn, gather, along, Fine};
+ghost use Rattle.window.specs.Gather.{entered};
 
 // A source that is read: its sizes and its flag, what is made of it, the destination's interval, and the range.
 pub struct Reading {
@@ -19,13 +19,7 @@ pub struct Reading {
     pub end: u64,
 }
 
-// How many values a window has, and how many of them are finite.
-struct Count {
-    seen: usize,
-    finite: usize,
-}
-
-// The same, with the fold of the finite ones.
+// How many values a window has in the slots read, how many of them are finite, and the fold of these.
 pub struct Gathered {
     pub seen: usize,
     pub finite: usize,
@@ -79,74 +73,30 @@ fn held_at(slab: &[u8], q: Reading, window: u64, column: usize, slot: usize) -> 
     held_value(v)
 }
 
-// One slot counted.
-fn counted(k: Count, h: model::Held) -> Count
-    requires { ⌜ (k .seen < 4294967296) × (k .finite < 4294967296) ⌝ }
-    ensures { λ r. ⌜ Counted (k .seen) (k .finite) h (r .seen) (r .finite) ⌝ }
+// One slot more: a finite value enters count and fold, an infinite one is seen.
+fn enter(f: model::ConsolidationFn, g: Gathered, h: model::Held) -> Gathered
+    requires { ⌜ (g .seen < 4294967296) × (g .finite < 4294967296) ⌝ }
+    ensures { λ r. ⌜ r ≡ entered f g h ⌝ }
 {
     match h {
-        model::Held::Outside => k,
-        model::Held::Infinite => Count {
-            seen: k.seen + 1,
-            finite: k.finite,
+        model::Held::Outside => g,
+        model::Held::Infinite => Gathered {
+            seen: g.seen + 1,
+            finite: g.finite,
+            value: g.value,
         },
-        model::Held::Finite(x) => Count {
-            seen: k.seen + 1,
-            finite: k.finite + 1,
-        },
+        model::Held::Finite(x) => {
+            let value = apply::fold_step(f, g.value, x);
+            Gathered {
+                seen: g.seen + 1,
+                finite: g.finite + 1,
+                value: value,
+            }
+        }
     }
 }
 
-// The first pass: how many values the window has, and how many of them are finite.
-fn count_values(slab: &[u8], q: Reading, window: u64, column: usize, place: model::Place) -> Count
-    requires { ⌜ Readable (now slab) q ⌝ }
-    requires { ⌜ Asked q window column place ⌝ }
-    ensures { λ r. ⌜ Counts (heldIn (jobIn (now (slab .entry)) q) window column (walk (q .slots) (place .slot) (place .left))) (r .seen) (r .finite) ⌝ }
-    ensures { λ r. ⌜ r .finite ≤ q .slots ⌝ }
-{
-    let mut k = Count { seen: 0, finite: 0 };
-    let mut slot = place.slot;
-    let mut left = place.left;
-    while 0 < left {
-        let h = held_at(slab, q, window, column, slot);
-        k = counted(k, h);
-        slot = ring::next_slot(q.slots, slot);
-        left = left - 1;
-    }
-    k
-}
-
-// One slot's value entered, if it is finite.
-fn entered(f: model::ConsolidationFn, a: f64, h: model::Held) -> f64
-    ensures { λ r. ⌜ r ≡ fold f a (keepFinite h []) ⌝ }
-{
-    match h {
-        model::Held::Outside => a,
-        model::Held::Infinite => a,
-        model::Held::Finite(x) => apply::fold_step(f, a, x),
-    }
-}
-
-// The second pass: the finite values, left to right.
-fn folded(slab: &[u8], q: Reading, window: u64, column: usize, place: model::Place) -> f64
-    requires { ⌜ Readable (now slab) q ⌝ }
-    requires { ⌜ Asked q window column place ⌝ }
-    ensures { λ r. ⌜ r ≡ fold (q .function) (foldStart (q .function)) (finites (heldIn (jobIn (now (slab .entry)) q) window column (walk (q .slots) (place .slot) (place .left)))) ⌝ }
-{
-    let f = q.function;
-    let mut a = apply::fold_start(f);
-    let mut slot = place.slot;
-    let mut left = place.left;
-    while 0 < left {
-        let h = held_at(slab, q, window, column, slot);
-        a = entered(f, a, h);
-        slot = ring::next_slot(q.slots, slot);
-        left = left - 1;
-    }
-    a
-}
-
-// What a window has in a column.
+// What a window has in a column: one pass, each slot read once. After any number of slots g is what the window has in these (specs/Gather.antt `SoFar`).
 fn gather_values(
     slab: &[u8],
     q: Reading,
@@ -159,13 +109,22 @@ fn gather_values(
     ensures { λ r. ⌜ r ≡ gather (q .function) (heldIn (jobIn (now (slab .entry)) q) window column (walk (q .slots) (place .slot) (place .left))) ⌝ }
     ensures { λ r. ⌜ r .finite < 4294967296 ⌝ }
 {
-    let k = count_values(slab, q, window, column, place);
-    let a = folded(slab, q, window, column, place);
-    Gathered {
-        seen: k.seen,
-        finite: k.finite,
-        value: a,
+    let f = q.function;
+    let value = apply::fold_start(f);
+    let mut g = Gathered {
+        seen: 0,
+        finite: 0,
+        value: value,
+    };
+    let mut slot = place.slot;
+    let mut left = place.left;
+    while 0 < left {
+        let h = held_at(slab, q, window, column, slot);
+        g = enter(f, g, h);
+        slot = ring::next_slot(q.slots, slot);
+        left = left - 1;
     }
+    g
 }
 
 // The window's answer for a column, from these slots. A number is never NaN.
