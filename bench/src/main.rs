@@ -22,6 +22,13 @@ fn three(series: u32) -> Plan {
     Plan { schemas: 1, series, tiers: vec![tier(1, 7200, 0), tier(60, 1440, 1), tier(3600, 720, 1)] }
 }
 
+/// Seconds straight into hours.
+fn hours(series: u32) -> Plan {
+    let mut plan = three(series);
+    plan.tiers.remove(1);
+    plan
+}
+
 /// The first of three's tiers alone, `schemas` of them.
 fn rings(schemas: u32, tiers: u64) -> Plan {
     let tier = |j: u64| Tier { interval: SECOND * (j + 1), slots: 7200, function: (j > 0) as u32 };
@@ -188,6 +195,17 @@ fn measures() -> Vec<Measure> {
         }),
         ..base("run, nothing new", 200, 10, three(2), Box::new(idle_run))
     };
+    // The hour that holds the mark, 3,600 slots of 64 columns, gathered again by each run: hardly anything else is done.
+    let gathering = Measure {
+        unit: "a value",
+        per_turn: 3600 * 64,
+        setup: Box::new(|side| {
+            side.entries(64);
+            seconds(side, 0, 7200);
+            side.consolidate();
+        }),
+        ..base("gathering an hour of 64 series", 5, 2, hours(64), Box::new(idle_run))
+    };
     vec![
         record("record, 1 row", rings(1, 1)),
         record("record, 3 rows", three(2)),
@@ -216,6 +234,7 @@ fn measures() -> Vec<Measure> {
         run("run after an hour, 36,000 slots", 3, 2, 36_000, 3600),
         run("run after an hour, 10^6 slots", 3, 2, 1_000_000, 3600),
         nothing_new,
+        gathering,
         base("creation", 50, 10, three(2), Box::new(|side, _| side.create(&three(2)))),
         query("opening", 50, Box::new(|side, _| side.open())),
         flags("flags of 3 fresh rings", 2000, 10, three(2), Box::new(|_| ())),
