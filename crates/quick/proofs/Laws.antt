@@ -18,18 +18,12 @@ unfolding slabLength columnAt columnBehind stampsBehind directory
 length-is n m = omega (arith, mul-add n (8 * m) 8, mul-assoc n 8 m, mul-assoc 8 n m, mul-comm n 8, mul-suc n m)
 
 -- a product that cannot wrap
-pub product-low : (n d : ℕ) → 0 < n → n < 134_217_728 → (d / 4_294_967_296) * n < 536_870_912 → n * d + d < 2 ^ 63
+pub product-low : (n d : ℕ) → 0 < n → n < 134_217_728 → (d / 4_294_967_296) * n < 1_006_632_960 → n * d + d < 2 ^ 63
 product-low n d some few h =
     let q = d / 4_294_967_296 in
     let up : d ≤ q * 4_294_967_296 + 4_294_967_295 = omega arith in
     let one : 1 ≤ n = omega arith in
     omega (arith, mul-le-mul-right n up, mul-le-mul-right q one)
-
--- the same of fewer than 2^16 slots, by the interval alone
-pub brief-low : (n d : ℕ) → n < 65_536 → d < 140_737_488_355_328 → n * d + d < 2 ^ 63
-brief-low n d few h =
-    let up : n ≤ 65_535 = omega arith in
-    omega (arith, mul-le-mul-right d up)
 
 -- ---- words of rows
 
@@ -138,15 +132,15 @@ slotted-is n d r {x} low e l =
     record { held = omega (arith, sum); rest = omega (arith, sum, l); low = low }
 
 -- a slab by its words
-pub slab-is : (s : List ℕ) (at : ℕ) (r : Row) (m h : ℕ) {w y n c g : ℕ} → m < 4_294_967_296 → PairAt s at w → w ≡ 0x1_4f44_4e52
-    → g ≡ get 8 s (at + 8) → g ≡ h → PairAt s (at + 16) y → (n + 4_294_967_296 * m) % 2 ^ 64 ≡ y → n < 134_217_728
+pub slab-is : (s : List ℕ) (at : ℕ) (r : Row) (m h : ℕ) {w y n c g high : ℕ} → m < 4_294_967_296 → high ≡ 4_294_967_296 * m → PairAt s at w → w ≡ 0x1_4f44_4e52
+    → g ≡ get 8 s (at + 8) → g ≡ h → PairAt s (at + 16) y → (n + high) % 2 ^ 64 ≡ y → n < 134_217_728
     → c ≡ get 4 s (at + 32) → c < n → r .len ≡ n * (8 * m + 8) + (4 * m + 64) → Timed s at r n → Slab s at r m h
-slab-is s at r m h {w} {y} {n} few a named g hash b e l c low len t =
-    let whole : n + 4_294_967_296 * m < 2 ^ 64 = omega arith in
-    let sum : n + 4_294_967_296 * m ≡ y = sym (mod-eq-of-lt whole) ∙ e in
+slab-is s at r m h {w} {y} {n} {high = high} few k a named g hash b e l c low len t =
+    let whole : n + high < 2 ^ 64 = omega arith in
+    let sum : n + high ≡ y = sym (mod-eq-of-lt whole) ∙ e in
     let four : at + 16 + 4 ≡ at + 20 = omega arith in
-    let slots-is : n ≡ get 4 s (at + 16) = omega (arith, b .0, b .1, sum) in
-    let series-is : get 4 s (at + 16 + 4) ≡ m = omega (arith, b .0, b .1, sum) in
+    let slots-is : n ≡ get 4 s (at + 16) = omega (arith, b .0, b .1, sum, k) in
+    let series-is : get 4 s (at + 16 + 4) ≡ m = omega (arith, b .0, b .1, sum, k) in
     let up : n * (8 * m + 8) ≤ 134_217_728 * (8 * m + 8) = mul-le-mul-right (8 * m + 8) (omega arith) in
     record {
       magic-is = omega (arith, a .0, a .1, named);

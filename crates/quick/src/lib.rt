@@ -1,8 +1,8 @@
 // A quick pass over header, rows and slab headers that only says "all good": then opening's check passes. Where it does not say so, the plain check in document
-// 01's order decides. So it may leave rare shapes to the plain check: a slab of 2^27 slots or more and a tier that holds 73 years or more, so that no product
-// can wrap and no row is divided; and an image of 2 GiB or more, so that its bound is one short constant. Two fields that stand side by side are read as one
-// word (`pair`), and what the rows of a schema share is carried from row to row (`Shared`). A store of one schema with at most four rows has a loop of its own
-// (`few_good`), which the compiler writes out row by row. `check` asks this pass, then the plain check.
+// 01's order decides. So it may leave rare shapes to the plain check: a slab of 2^27 slots or more and a tier that holds 137 years or more, so that no product
+// can wrap and no row is divided. Two fields that stand side by side are read as one word (`pair`), and what the rows of a schema share is carried from row to
+// row (`Shared`). A store of one schema with at most four rows has a loop of its own (`few_good`), which the compiler writes out row by row. `check` asks this
+// pass, then the plain check.
 ghost use mathlib.Core.Path.{_≡_};
 ghost use mathlib.Core.Bool.{true};
 ghost use Prim.Native.Nat.{_+_, _*_, _<_, _≤_, _^_};
@@ -44,7 +44,7 @@ fn head_good(s: &[u8]) -> bool
     if field::get_u64(s, 24) != 0 {
         return false;
     }
-    if total > 0x7fff_ffff {
+    if total >= 0x100_0000_0000 {
         return false;
     }
     total >= 96 + 64 * n
@@ -136,23 +136,20 @@ fn next_tier(s: &[u8], i: usize, p: Shared) -> Step
     follows(s, i, p)
 }
 
-// n slots, fewer than `most`, of an interval hold less than 2^63 ns. Where `most` is at most 2^16 the interval alone is asked: it is below 39 hours.
-fn is_low(n: u64, most: u64, interval: u64) -> bool
-    requires { ⌜ (0 < n) × (n < most) × (most ≤ 134217728) ⌝ }
+// n slots of an interval, and one more, hold less than 2^63 ns: by the interval's upper half.
+fn is_low(n: u64, interval: u64) -> bool
+    requires { ⌜ (0 < n) × (n < 134217728) ⌝ }
     ensures { λ b. ⌜ (b ≡ true → n * interval + interval < 2 ^ 63) ⌝ }
 {
-    if most <= 0x1_0000 {
-        return interval < 0x8000_0000_0000;
-    }
-    (interval / 0x1_0000_0000) * n < 0x2000_0000
+    (interval / 0x1_0000_0000) * n < 0x3c00_0000
 }
 
-// n slots, fewer than `most`, of an interval are what a retention has.
-fn slots_good(n: u64, most: u64, interval: u64, retention: u64) -> bool
-    requires { ⌜ (0 < n) × (n < most) × (most ≤ 134217728) ⌝ }
+// n slots of an interval are what a retention has.
+fn slots_good(n: u64, interval: u64, retention: u64) -> bool
+    requires { ⌜ (0 < n) × (n < 134217728) ⌝ }
     ensures { λ b. ⌜ (b ≡ true → Slotted n interval retention) ⌝ }
 {
-    let low = is_low(n, most, interval);
+    let low = is_low(n, interval);
     if !low {
         return false;
     }
@@ -160,21 +157,21 @@ fn slots_good(n: u64, most: u64, interval: u64, retention: u64) -> bool
     rest < interval
 }
 
-// The slab at `at` has a row's interval, and n slots, fewer than `most`, are what the row has.
-fn timed_good(s: &[u8], at: usize, r: model::Row, n: u64, most: u64) -> bool
-    requires { ⌜ (at + 64 ≤ length (now s)) × (0 < n) × (n < most) × (most ≤ 134217728) ⌝ }
+// The slab at `at` has a row's interval, and n slots are what the row has.
+fn timed_good(s: &[u8], at: usize, r: model::Row, n: u64) -> bool
+    requires { ⌜ (at + 64 ≤ length (now s)) × (0 < n) × (n < 134217728) ⌝ }
     ensures { λ b. ⌜ (b ≡ true → Timed (now (s .entry)) at r n) ⌝ }
 {
     let interval = r.interval;
     if field::get_u64(s, at + 24) != interval {
         return false;
     }
-    slots_good(n, most, interval, r.retention)
+    slots_good(n, interval, r.retention)
 }
 
-// The slab at `at` is a row's, which shares p, and has fewer than `most` slots.
-fn slab_good(s: &[u8], at: usize, r: model::Row, p: Shared, most: u64) -> bool
-    requires { ⌜ (at + 64 ≤ length (now s)) × (p .series < 4294967296) × (p .high ≡ 4294967296 * p .series) × (most ≤ 134217728) ⌝ }
+// The slab at `at` is a row's, which shares p.
+fn slab_good(s: &[u8], at: usize, r: model::Row, p: Shared) -> bool
+    requires { ⌜ (at + 64 ≤ length (now s)) × (p .series < 4294967296) × (p .high ≡ 4294967296 * p .series) ⌝ }
     ensures { λ b. ⌜ (b ≡ true → Slab (now (s .entry)) at r (p .series) (p .hash)) ⌝ }
 {
     let named = pair(s, at);
@@ -186,7 +183,7 @@ fn slab_good(s: &[u8], at: usize, r: model::Row, p: Shared, most: u64) -> bool
     }
     let y = pair(s, at + 16);
     let n = std::num::wrapping_sub_u64(y, p.high);
-    if n >= most {
+    if n >= 0x800_0000 {
         return false;
     }
     if field::get_u32(s, at + 32) >= n {
@@ -195,12 +192,12 @@ fn slab_good(s: &[u8], at: usize, r: model::Row, p: Shared, most: u64) -> bool
     if r.len != n * (8 * p.series + 8) + (4 * p.series + 64) {
         return false;
     }
-    timed_good(s, at, r, n, most)
+    timed_good(s, at, r, n)
 }
 
-// Row i, which shares p, and whose slab stands at `at` and has fewer than `most` slots.
-fn place_good(s: &[u8], i: usize, at: usize, p: Shared, most: u64) -> bool
-    requires { ⌜ (32 + 64 * i + 64 ≤ length (now s)) × (at + 64 ≤ length (now s)) × Known (now s) i p × (most ≤ 134217728) ⌝ }
+// Row i, which shares p, and whose slab stands at `at`.
+fn place_good(s: &[u8], i: usize, at: usize, p: Shared) -> bool
+    requires { ⌜ (32 + 64 * i + 64 ≤ length (now s)) × (at + 64 ≤ length (now s)) × Known (now s) i p ⌝ }
     ensures { λ b. ⌜ (b ≡ true → Here (now (s .entry)) i at) ⌝ }
 {
     let r = rows::row_at(s, i);
@@ -210,19 +207,19 @@ fn place_good(s: &[u8], i: usize, at: usize, p: Shared, most: u64) -> bool
     if r.mark >= 0x8000_0000_0000_0000 {
         return false;
     }
-    slab_good(s, at, r, p, most)
+    slab_good(s, at, r, p)
 }
 
-// The first of n rows is the first of schema 0, and its slab, of fewer than `most` slots, stands right behind them.
-fn begins(s: &[u8], n: usize, most: u64) -> Step
-    requires { ⌜ (n ≤ 32) × (96 + 64 * n ≤ length (now s)) × (most ≤ 134217728) ⌝ }
+// The first of n rows is the first of schema 0, and its slab stands right behind them.
+fn begins(s: &[u8], n: usize) -> Step
+    requires { ⌜ (n ≤ 32) × (96 + 64 * n ≤ length (now s)) ⌝ }
     ensures { λ r. ⌜ IfGood (Begins (now (s .entry)) (32 + 64 * n)) r ⌝ }
 {
     let first = starts(s, 0, 0);
     let Step::Good(p) = first else {
         return Step::Bad;
     };
-    let here = place_good(s, 0, 32 + 64 * n, p, most);
+    let here = place_good(s, 0, 32 + 64 * n, p);
     if !here {
         return Step::Bad;
     }
@@ -242,17 +239,14 @@ fn ends(s: &[u8], i: usize) -> bool
     schemas == last + 1
 }
 
-// The n rows each join the row before, from schema 0 to the last, and their slabs stand one behind the other, up to `total`.
-fn rows_good(s: &[u8], n: usize, total: usize) -> bool
+// The n rows, the first of which is good, each join the row before, from schema 0 to the last, and their slabs stand one behind the other, up to `total`.
+fn rows_good(s: &[u8], n: usize, total: usize, first: Shared) -> bool
     requires { ⌜ (0 < n) × (n ≤ 32) × (n ≡ rowCount (now s)) × (96 + 64 * n ≤ total) × (total ≤ length (now s)) × (total ≤ 1099511627776) ⌝ }
+    requires { ⌜ Begins (now s) (32 + 64 * n) first ⌝ }
     ensures { λ b. ⌜ (b ≡ true → All (now (s .entry)) n total) ⌝ }
 {
     let last = total - 64;
-    let first = begins(s, n, 0x800_0000);
-    let Step::Good(begin) = first else {
-        return false;
-    };
-    let mut p = begin;
+    let mut p = first;
     let mut at = 32 + 64 * n;
     let mut i = 0;
     let mut here = true;
@@ -271,22 +265,19 @@ fn rows_good(s: &[u8], n: usize, total: usize) -> bool
         };
         p = q;
         i += 1;
-        here = place_good(s, i, at, p, 0x800_0000);
+        here = place_good(s, i, at, p);
     }
     false
 }
 
-// The n rows, at most four, are the tiers of schema 0, and their slabs stand one behind the other, up to `total`. Each has fewer than 2^16 slots and an interval
-// below 39 hours. How many schemas there are is the caller's to ask. The loop's turns are so few that the compiler writes them out.
-fn few_good(s: &[u8], n: usize, total: usize) -> bool
+// The n rows, at most four, the first of which is good, are the tiers of the only schema, and their slabs stand one behind the other, up to `total`. The loop's
+// turns are so few that the compiler writes them out.
+fn few_good(s: &[u8], n: usize, total: usize, first: Shared) -> bool
     requires { ⌜ (0 < n) × (n ≤ 4) × (n ≡ rowCount (now s)) × (96 + 64 * n ≤ total) × (total ≤ length (now s)) × (total ≤ 1099511627776) ⌝ }
-    ensures { λ b. ⌜ (b ≡ true → schemas (now (s .entry)) ≡ 1 → All (now (s .entry)) n total) ⌝ }
+    requires { ⌜ Begins (now s) (32 + 64 * n) first × (schemas (now s) ≡ 1) ⌝ }
+    ensures { λ b. ⌜ (b ≡ true → All (now (s .entry)) n total) ⌝ }
 {
-    let first = begins(s, n, 0x1_0000);
-    let Step::Good(begin) = first else {
-        return false;
-    };
-    let mut p = begin;
+    let mut p = first;
     let mut at = 32 + 64 * n + field::get_u64(s, 72) as usize;
     let mut i = 0;
     while i < 3 {
@@ -301,7 +292,7 @@ fn few_good(s: &[u8], n: usize, total: usize) -> bool
             return false;
         };
         p = q;
-        let here = place_good(s, i + 1, at, p, 0x1_0000);
+        let here = place_good(s, i + 1, at, p);
         if !here {
             return false;
         }
@@ -311,26 +302,27 @@ fn few_good(s: &[u8], n: usize, total: usize) -> bool
     at == total
 }
 
-// All good: opening's check passes. What `few_good` does not pass, `rows_good` looks at again. The number of schemas is asked last, which is faster.
+// All good: opening's check passes.
 pub fn is_good(s: &[u8]) -> bool
     ensures { λ b. ⌜ (b ≡ true → openCheck (now (s .entry)) ≡ 0) ⌝ }
 {
     let headed = head_good(s);
-    if headed {
-        let n = field::get_u32(s, 12) as usize;
-        let total = field::get_u64(s, 16) as usize;
-        if n <= 4 {
-            let few = few_good(s, n, total);
-            if few {
-                let schemas = field::get_u32(s, 8);
-                if schemas == 1 {
-                    return true;
-                }
-            }
-        }
-        return rows_good(s, n, total);
+    if !headed {
+        return false;
     }
-    false
+    let n = field::get_u32(s, 12) as usize;
+    let total = field::get_u64(s, 16) as usize;
+    let begun = begins(s, n);
+    let Step::Good(first) = begun else {
+        return false;
+    };
+    if n <= 4 {
+        let schemas = field::get_u32(s, 8);
+        if schemas == 1 {
+            return few_good(s, n, total, first);
+        }
+    }
+    rows_good(s, n, total, first)
 }
 
 // What the plain check says, by its number. A function of its own: written out in `check`, the compiler copies the slice there by a load of 16 bytes right

@@ -25,7 +25,7 @@ add-place-good : tie.Need-add-place-good
 add-place-good c = omega arith
 
 place-good-requires : tie.Need-place-good-requires
-place-good-requires c κs = (omega arith, omega arith, good-is (Begun (c .before .before .before .before .before .args .s .now) 0 0) (c .before .first .given .1) (c .before .before .before .starts .ensures) .known, c .before .before .before .before .before .pre .2)
+place-good-requires c κs = (omega arith, omega arith, good-is (Begun (c .before .before .before .before .before .args .s .now) 0 0) (c .before .first .given .1) (c .before .before .before .starts .ensures) .known)
 
 returns-2 : tie.Need-returns-2
 returns-2 c = tt

@@ -6,6 +6,9 @@ use borrow.Author.Needs.{needs}
 use Rattle.quick.proofs.place_good.Statement.{statement}
 use Rattle.quick.proofs.place_good.Tie as tie
 
+abbrev start : tie.Else1 → tie.Start
+start d = d .before .before .before .before
+
 row-at-requires : tie.Need-row-at-requires
 row-at-requires c κs = search needs
 
@@ -16,10 +19,13 @@ returns-2 : tie.Need-returns-2
 returns-2 c = λ e. absurd (false≢true e)
 
 slab-good-requires : tie.Need-slab-good-requires
-slab-good-requires c κs = (c .before .before .before .before .before .before .pre .1, c .before .before .before .before .before .before .pre .2 .series-low, c .before .before .before .before .before .before .pre .2 .high-is, c .before .before .before .before .before .before .pre .3)
+slab-good-requires c κs = let k = start (c .before .before) .pre in (k .1, k .2 .series-low, k .2 .high-is)
 
 returns-3 : tie.Need-returns-3
-returns-3 c = λ e. here-is (c .before .before .before .before .before .before .before .args .s .now) (c .before .before .before .before .before .before .before .args .i) (c .before .before .before .before .before .before .before .args .at) (c .before .before .before .before .before .before .before .args .p) (c .before .before .before .before .before .before .before .pre .2) (c .before .before .before .before .before .row-at .ensures) (c .before .before .before .if1 .left) (c .before .if2 .left) (c .slab-good .ensures e)
+returns-3 c =
+    let d = c .before .before .before in
+    let a = start d .args in
+    λ e. here-is (a .s .now) (a .i) (a .at) (a .p) (start d .pre .2) (d .before .before .row-at .ensures) (d .if1 .left) (c .before .if2 .left) (c .slab-good .ensures e)
 
 pub place-good-spec : {M : Type 1} → statement M
 place-good-spec =

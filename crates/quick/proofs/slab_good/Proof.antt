@@ -6,8 +6,22 @@ use native.Mathlib.Nat.{mul-le-mul-right}
 use Rattle.quick.proofs.Laws.{slab-is}
 use Prim.Native.Nat.{_+_, _*_, _≤_}
 use borrow.Author.Needs.{needs}
+use Rattle.quick.specs.declared.Shared.{Shared}
 use Rattle.quick.proofs.slab_good.Statement.{statement}
 use Rattle.quick.proofs.slab_good.Tie as tie
+
+-- the slots are fewer than 2^27 and the cursor is below them; back to where their word was read, to where the hash was found the same, to the start
+abbrev words : tie.Else4 → tie.After-wrapping-sub-u64
+words d = d .before .before .before
+
+abbrev named : tie.Else4 → tie.Else2
+named d = words d .before .before
+
+abbrev start : tie.Else4 → tie.Start
+start d = named d .before .before .before .before .before .before
+
+abbrev shared : tie.Else4 → Shared
+shared d = start d .args .p
 
 pair-requires : tie.Need-pair-requires
 pair-requires c κs = search needs
@@ -52,7 +66,7 @@ add-if5 : tie.Need-add-if5
 add-if5 c = search needs
 
 mul-if5-2 : tie.Need-mul-if5-2
-mul-if5-2 c = let up : c .before .before .before .before .wrapping-sub-u64 .result ≤ 134_217_728 = omega arith in omega (arith, mul-le-mul-right (8 * c .before .before .before .before .before .before .before .before .before .before .before .before .args .p .series + 8) up, c .before .before .before .before .before .before .before .before .before .before .before .before .pre .1)
+mul-if5-2 c = let d = c .before in let up : words d .wrapping-sub-u64 .result ≤ 134_217_728 = omega arith in omega (arith, mul-le-mul-right (8 * shared d .series + 8) up, start d .pre .1)
 
 mul-if5-3 : tie.Need-mul-if5-3
 mul-if5-3 c = search needs
@@ -61,16 +75,23 @@ add-if5-2 : tie.Need-add-if5-2
 add-if5-2 c = search needs
 
 add-if5-3 : tie.Need-add-if5-3
-add-if5-3 c = let up : c .before .before .before .before .before .wrapping-sub-u64 .result ≤ 134_217_728 = omega arith in omega (arith, mul-le-mul-right (8 * c .before .before .before .before .before .before .before .before .before .before .before .before .before .args .p .series + 8) up, c .before .before .before .before .before .before .before .before .before .before .before .before .before .pre .1)
+add-if5-3 c = let d = c .before .before in let up : words d .wrapping-sub-u64 .result ≤ 134_217_728 = omega arith in omega (arith, mul-le-mul-right (8 * shared d .series + 8) up, start d .pre .1)
 
 returns-5 : tie.Need-returns-5
 returns-5 c = λ e. absurd (false≢true e)
 
 timed-good-requires : tie.Need-timed-good-requires
-timed-good-requires c κs = (c .before .before .before .before .before .before .before .before .before .before .before .before .before .before .before .pre .0, omega (arith, c .before .before .before .before .if4 .left), c .before .before .before .before .before .before .if3 .left, c .before .before .before .before .before .before .before .before .before .before .before .before .before .before .before .pre .3)
+timed-good-requires c κs = let d = c .before .before .before .before in (start d .pre .0, omega (arith, d .if4 .left), d .before .before .if3 .left)
 
 returns-6 : tie.Need-returns-6
-returns-6 c = λ e. slab-is (c .before .before .before .before .before .before .before .before .before .before .before .before .before .before .before .before .args .s .now) (c .before .before .before .before .before .before .before .before .before .before .before .before .before .before .before .before .args .at) (c .before .before .before .before .before .before .before .before .before .before .before .before .before .before .before .before .args .r) (c .before .before .before .before .before .before .before .before .before .before .before .before .before .before .before .before .args .p .series) (c .before .before .before .before .before .before .before .before .before .before .before .before .before .before .before .before .args .p .hash) (c .before .before .before .before .before .before .before .before .before .before .before .before .before .before .before .before .pre .1) (c .before .before .before .before .before .before .before .before .before .before .before .before .before .before .pair .ensures) (c .before .before .before .before .before .before .before .before .before .before .before .before .before .if1 .left) (c .before .before .before .before .before .before .before .before .before .before .before .before .get-u64 .ensures) (c .before .before .before .before .before .before .before .before .before .before .if2 .left) (c .before .before .before .before .before .before .before .before .before .pair2 .ensures) (rw (c .before .before .before .before .before .before .before .before .before .before .before .before .before .before .before .before .pre .2) at (c .before .before .before .before .before .before .before .before .wrapping-sub-u64 .ensures)) (omega (arith, c .before .before .before .before .before .before .before .if3 .left, c .before .before .before .before .before .before .before .before .before .before .before .before .before .before .before .before .pre .3)) (c .before .before .before .before .before .before .get-u32 .ensures .0) (c .before .before .before .before .before .if4 .left) (c .before .if5 .left) (c .timed-good .ensures e)
+returns-6 c =
+    let d = c .before .before .before .before .before in
+    let e = named d in
+    let a = start d .args in
+    let p = start d .pre in
+    λ f. slab-is (a .s .now) (a .at) (a .r) (a .p .series) (a .p .hash) (p .1) (p .2) (e .before .before .before .before .pair .ensures) (e .before .before .before .if1 .left)
+    (e .before .before .get-u64 .ensures) (e .if2 .left) (words d .before .pair2 .ensures) (words d .wrapping-sub-u64 .ensures)
+    (omega (arith, d .before .before .if3 .left)) (d .before .get-u32 .ensures .0) (d .if4 .left) (c .before .if5 .left) (c .timed-good .ensures f)
 
 pub slab-good-spec : {M : Type 1} → statement M
 slab-good-spec =

@@ -16,7 +16,7 @@ returns : tie.Need-returns
 returns c = λ e. absurd (false≢true e)
 
 slots-good-requires : tie.Need-slots-good-requires
-slots-good-requires c κs = (c .before .before .before .pre .1, c .before .before .before .pre .2, c .before .before .before .pre .3)
+slots-good-requires c κs = (c .before .before .before .pre .1, c .before .before .before .pre .2)
 
 returns-2 : tie.Need-returns-2
 returns-2 c = λ e. record { interval-is = sym (c .before .before .get-u64 .ensures) ∙ c .before .if1 .left; slotted = c .slots-good .ensures e }
