@@ -1,0 +1,1 @@
+// How many passes a run makes over a source. It stands in specs/; there is no code here.
