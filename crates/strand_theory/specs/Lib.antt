@@ -1,3 +1,4 @@
 pub mod Cuts
 pub mod Passes
 pub mod Few
+pub mod Rows
