@@ -10,8 +10,9 @@ use mathlib.Core.Bool.{cond}
 use mathlib.Core.List.{List, [], _∷_}
 use lib.Dec.{ltb}
 use lib.ListN.{length}
-use Rattle.model.specs.Ring.{slots, interval, cursor, stamp, slotOf, order}
+use Rattle.model.specs.Ring.{slots, interval, cursor, stamp, slotOf, order, endOf, newest}
 use Rattle.model.specs.Window.{Job, windowOf}
+use Rattle.model.specs.Consolidate.{endAfter}
 use Rattle.laws.specs.Tests.{yes-lt, no-lt}
 use Rattle.strand_theory.specs.Cuts.{In, Before, Cut, Cuts, none, more, Homed, lapOf, Laps}
 use Rattle.strand_theory.specs.Passes.{div-mono, window-mono, window-end, window-again, window-step, window-long, passOf, pass-mono, pass-before}
@@ -240,7 +241,13 @@ module _ (q : Job) (ls : List ℕ) (cur : cursor (q .source .slab) < slots (q .s
 
   -- ---- a range that ends behind the newest stamp
 
-  module _ (ended : q .end ≡ suc (at (cursor (q .source .slab)))) where
+  -- a range that is not empty ends behind the stamp t
+  ends-behind : (t e : ℕ) → e ≡ endAfter (endOf t) → 0 < e → e ≡ suc t
+  unfolding endAfter endOf
+  ends-behind zero e h pos = absurd (omega arith)
+  ends-behind (suc t) e h pos = h
+
+  module _ (ended : q .end ≡ endAfter (newest (q .source))) where
     abbrev newestLap : ℕ
     newestLap = lapOf (q .source .slab) (at (cursor (q .source .slab)))
 
@@ -253,16 +260,17 @@ module _ (q : Job) (ls : List ℕ) (cur : cursor (q .source .slab) < slots (q .s
         pass-before (slots s) (origin (q .source)) (omega (arith, cur)) (o .1) (at (cursor s) / interval s) (rw (home (cursor s) cur some) (o .0))
 
     fewer : (x : ℕ) → 0 < q .start + x → {k b : ℕ} → Cuts q k b → k ≤ x + 2 * (length ls - 1)
+    unfolding newest
     fewer x free none = omega arith
     fewer x free (more {k} {b} {e} cs c) =
         let s = q .source .slab in
-        let t = at (cursor s) in
-        let h = falls b e c in
-        let lo : q .start ≤ t = omega (arith, begun last to-end cs, c .low-from, h, c .high-below, ended) in
-        let inc = cursor-read (q .source) cur (c .high) (before-left (c .high) (c .low) (order (q .source)) (c .before)) in
-        let p = newest-pass (λ e. omega (arith, e, h, c .high-below, ended)) in
-        let capped : (t : ℕ) → t < q .end → pass t ≤ newestLap = λ t l. rw (← p) (later-pass (omega (arith, l, ended))) in
-        omega (arith, few newestLap capped x free (more cs c), below-less newestLap ls (laps (cursor s) inc lo (omega (arith, ended))))
+        let fall = falls b e c in
+        let last-is : q .end ≡ suc (at (cursor s)) = ends-behind (at (cursor s)) (q .end) ended (omega (arith, c .high-below)) in
+        let lo : q .start ≤ at (cursor s) = omega (arith, begun last to-end cs, c .low-from, fall, c .high-below, last-is) in
+        let read = cursor-read (q .source) cur (c .high) (before-left (c .high) (c .low) (order (q .source)) (c .before)) in
+        let p = newest-pass (λ z. omega (arith, z, fall, c .high-below, last-is)) in
+        let capped : (t : ℕ) → t < q .end → pass t ≤ newestLap = λ t l. rw (← p) (later-pass (omega (arith, l, last-is))) in
+        omega (arith, few newestLap capped x free (more cs c), below-less newestLap ls (laps (cursor s) read lo (omega (arith, last-is))))
 
     pub fewer-cuts-from : 0 < q .start → {k b : ℕ} → Cuts q k b → k ≤ 2 * (length ls - 1)
     fewer-cuts-from pos cs = omega (arith, fewer 0 (omega arith) cs)
