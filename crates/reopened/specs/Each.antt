@@ -228,7 +228,7 @@ module _ (P : ℕ → ℕ → Ring → Type 0)
   pair-if true (suc n) u i h hi = h
   pair-if false n u i h hi = h
 
-  all-pairs : (k i : ℕ) (u : Run) → Each (u .lent) → i + k ≤ rowCount (u .lent .image) - 1 → Each (pairs u i k .lent)
+  pub all-pairs : (k i : ℕ) (u : Run) → Each (u .lent) → i + k ≤ rowCount (u .lent .image) - 1 → Each (pairs u i k .lent)
   unfolding pairs
   all-pairs zero i u h b = h
   all-pairs (suc k) i u h b =

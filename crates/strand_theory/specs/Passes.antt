@@ -2,14 +2,13 @@
 -- newest stamp's pass is its lap. Where a later stamp is read before an earlier one, its pass is later too, and a lap of one of the two lies between the
 -- passes. Assumes nothing.
 use Prim.Native.Nat.{ℕ, zero, suc, _+_, _-_, _*_, _/_, _%_, _≤_, _<_}
-use native.Mathlib.Nat.{suc-mul, mul-zero, div-zero, mod-lt, mod-self, add-mod-left, mod-eq-of-lt, mod-eq-sub-mod, mod-add-div', mul-le-mul-right, le-div-iff-mul-le, div-mul-le-self, lt-div-mul-add, mul-div-cancel}
+use native.Mathlib.Nat.{suc-mul, mul-zero, one-mul, div-zero, div-self, mod-lt, mod-self, add-mod-left, mod-eq-of-lt, mod-eq-sub-mod, mod-add-div', mul-le-mul-right, le-div-iff-mul-le, div-mul-le-self, lt-div-mul-add, mul-div-cancel}
 use native.Mathlib.Omega.{arith}
 use native.Mathlib.Decide.{decLt, ℕ-discrete}
 use mathlib.Core.Path.{_≡_, refl, sym, ap, _∙_, subst}
 use mathlib.Core.Logic.{_⊎_, inl, inr}
 use mathlib.Core.Bool.{Bool, true, false, cond}
 use mathlib.Core.List.{List, [], _∷_}
-use Rattle.model.specs.declared.Place.{Place}
 use Rattle.model.specs.Ring.{Ring, slots, cursor, walk, isEmpty, firstPlace, order}
 use Rattle.model.specs.Window.{windowOf}
 use Rattle.rings.specs.Numbers.{slotsOf, walk-is, div-is}
@@ -25,6 +24,14 @@ module _ (d : ℕ) where
   pub window-mono : {t u : ℕ} → t ≤ u → windowOf d t ≤ windowOf d u
   unfolding windowOf
   window-mono h = mul-le-mul-right d (div-mono d h)
+
+  pub window-below : (t : ℕ) → windowOf d t ≤ t
+  unfolding windowOf
+  window-below t = div-mul-le-self t d
+
+  pub window-self : 0 < d → windowOf d d ≡ d
+  unfolding windowOf
+  window-self z = rw (div-self z) (one-mul d)
 
   pub window-end : (t : ℕ) → 0 < d → t < windowOf d t + d
   unfolding windowOf
