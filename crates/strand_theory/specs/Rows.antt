@@ -10,8 +10,9 @@ use lib.Dec.{leb, ltb, eqb}
 use Rattle.model.specs.declared.ConsolidationFn.the-variants.{Last}
 use Rattle.model.specs.Bytes.{Bytes-defs}
 use Rattle.model.specs.Layout.{freshSlab, Layout-defs}
-use Rattle.model.specs.Ring.{Ring, slots, cursor, stamp, slotOf, write, order, Ring-defs}
+use Rattle.model.specs.Ring.{Ring, slots, cursor, stamp, slotOf, write, order, newest, Ring-defs}
 use Rattle.model.specs.Window.{Job, windowOf}
+use Rattle.model.specs.Consolidate.{endAfter}
 use Rattle.laws.specs.Tests.{no-eq, eq-is, le-is, lt-is, and-left, and-right}
 use Rattle.strand_theory.specs.Cuts.{In, Before, Cut, Cuts, none, more, Homed, lapOf, Laps}
 use Rattle.strand_theory.specs.Passes.{in-ring}
@@ -129,7 +130,7 @@ Rows-defs : Unit {0}
 unfolding Bytes-defs Layout-defs Ring-defs windowOf lapOf every isIn at-home of-laps isBefore isCut after ringOf job
 Rows-defs = tt
 
--- 11 12 13 7 8 9 10 in reading order, windows of 4: cut at 8, 11 before 7, and at 12, 12 before 8
+-- two cuts in one lap: 11 12 13 7 8 9 10 in reading order, windows of 4: cut at 8, 11 before 7, and at 12, 12 before 8
 unfoldable pub oneLap : Job
 oneLap = job (ringOf 7 (11 ∷ 12 ∷ 13 ∷ 7 ∷ 8 ∷ 9 ∷ 10 ∷ [])) 4 7 14
 
@@ -142,7 +143,7 @@ one-lap = record {
   cuts = more (more none (is-cut oneLap 7 8 4 0 refl)) (is-cut oneLap 8 12 5 1 refl);
 }
 
--- 5 6 7 8 9, none, 1 2, none, 4, windows of 2, from 0 on: cut at 2, 2 before none, at 4, 5 before 2, and at 6, 6 before 4
+-- three in one lap from 0 on: 5 6 7 8 9, none, 1 2, none, 4, windows of 2: cut at 2, 2 before none, at 4, 5 before 2, and at 6, 6 before 4
 unfoldable pub fromZero : Job
 fromZero = job (ringOf 10 (5 ∷ 6 ∷ 7 ∷ 8 ∷ 9 ∷ 1 ∷ 2 ∷ 4 ∷ [])) 2 0 10
 
@@ -155,7 +156,7 @@ from-zero = record {
   cuts = more (more (more none (is-cut fromZero 0 2 2 3 refl)) (is-cut fromZero 2 4 5 2 refl)) (is-cut fromZero 4 6 6 4 refl);
 }
 
--- up to the newest, 20: 14 8 16 17 18 12 20, windows of 4: cut at 12, 14 before 8, and at 16, 16 before 12
+-- two in two laps up to the newest, 20: 14 8 16 17 18 12 20, windows of 4: cut at 12, 14 before 8, and at 16, 16 before 12
 unfoldable pub twoLaps : Job
 twoLaps = job (ringOf 7 (8 ∷ 12 ∷ 14 ∷ 16 ∷ 17 ∷ 18 ∷ 20 ∷ [])) 4 8 21
 
@@ -168,7 +169,7 @@ two-laps = record {
   cuts = more (more none (is-cut twoLaps 8 12 0 1 refl)) (is-cut twoLaps 12 16 2 5 refl);
 }
 
--- up to the newest, 4, from 0 on: none, 1 2, none, 4, windows of 2: cut at 2, 2 before none
+-- one in one lap from 0 up to the newest, 4: none, 1 2, none, 4, windows of 2: cut at 2, 2 before none
 unfoldable pub unwritten : Job
 unwritten = job (ringOf 5 (1 ∷ 2 ∷ 4 ∷ [])) 2 0 5
 
@@ -180,3 +181,8 @@ an-unwritten = record {
   laps = has-laps unwritten (0 ∷ []) (omega arith) refl;
   cuts = more none (is-cut unwritten 0 2 2 3 refl);
 }
+
+-- the last two end as a run's range does
+pub ends-are : (twoLaps .end ≡ endAfter (newest (twoLaps .source))) × (unwritten .end ≡ endAfter (newest (unwritten .source)))
+unfolding Rows-defs twoLaps unwritten endAfter
+ends-are = (refl, refl)
