@@ -9,16 +9,15 @@ use borrow.Rule.Slice.PartMut.{putMid}
 use Rattle.model.specs.declared.Place.{Place}
 use Rattle.model.specs.declared.WindowAnswer.{WindowAnswer}
 use Rattle.model.specs.Bytes.{part, splice}
-use Rattle.model.specs.Window.{windowOf, windowAnswer}
+use Rattle.model.specs.Window.{windowAnswer}
 use Rattle.model.specs.Consolidate.{writeAnswer}
 use Rattle.laws.specs.Bytes.{before, part-splice, part-splice-same, length-part, length-splice, splice-part, lent-splice}
 use Rattle.rings.specs.Sound.{Sound}
-use Rattle.window.specs.declared.Reading.{Reading}
-use Rattle.window.specs.Parts.{Readable, jobIn, along}
+use Rattle.window.specs.Parts.{Readable, jobIn}
 use Rattle.answers.specs.declared.Filling.{Filling}
 use Rattle.answers.specs.Parts.{filledOf}
 use Rattle.fill.specs.declared.Pair.{Pair}
-use Rattle.fill.specs.Parts.{sourceIn, destIn, jobOf, filledIn, Lies, Covers, Whole, Keeps}
+use Rattle.fill.specs.Parts.{sourceIn, destIn, jobOf, filledIn, Lies, Covers, Keeps}
 
 -- of two splices in one place the last counts
 splice-again : (s x y : List ℕ) (o : ℕ) → length x ≡ length y → splice (splice s o x) o y ≡ splice s o y
@@ -96,8 +95,3 @@ job-kept s t p k = ap (λ (x : List ℕ). jobIn x (p .reading)) (k .source-is)
 -- and the same slots have all of the window
 pub covers-kept : (s t : List ℕ) (p : Pair) → Keeps s t p → {w : ℕ} {place : Place} → Covers (sourceIn s p) (p .reading) w place → Covers (sourceIn t p) (p .reading) w place
 covers-kept s t p k {w} {place} h = subst (λ (x : List ℕ). Covers x (p .reading) w place) (sym (k .source-is)) h
-
--- the whole reading order has all of any window
-pub covers-whole : (s : List ℕ) (q : Reading) {place : Place} (w : ℕ) → Whole s q place → windowOf (q .long) w ≡ w → Covers s q w place
-unfolding windowAnswer along
-covers-whole s q w h e = record { slot-in = h .slot-in; few-left = h .few-left; starts = e; same = λ c. rw (h .order-is) }

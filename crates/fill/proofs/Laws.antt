@@ -1,15 +1,12 @@
--- One turn of the loop over a window's columns, and of the loop over the windows; where a refusal ends them, and where nothing is left. Assumes nothing.
-use Prim.Native.Nat.{ℕ, zero, suc, _+_, _*_, _-_, _<_}
+-- One turn of the loop over a window's columns; where a refusal ends them, and where nothing is left. Assumes nothing.
+use Prim.Native.Nat.{ℕ, zero, suc, _+_, _-_, _<_}
 use native.Mathlib.Omega.{arith}
-use native.Mathlib.Nat.{mul-suc}
 use native.Mathlib.Numerals.{add-one}
 use mathlib.Core.Path.{_≡_, refl, sym, ap, _∙_}
 use mathlib.Core.Logic.{_≢_}
 use mathlib.Core.List.{List, [], _∷_}
-use Rattle.model.specs.declared.End.the-variants.{At, Missing}
-use Rattle.model.specs.Ring.{slots}
 use Rattle.model.specs.Window.{Job, windowAnswer}
-use Rattle.model.specs.Consolidate.{Filled, writeAnswer, unlessRefused, fillWindow, fill, nextWindow, windowsFrom, windows}
+use Rattle.model.specs.Consolidate.{Filled, writeAnswer, unlessRefused, fillWindow, fill}
 
 -- ---- the columns of a window
 
@@ -42,33 +39,7 @@ module _ (q : Job) (w : ℕ) where
 
 -- ---- the windows
 
-module _ (q : Job) (m : ℕ) where
-  pub refused-windows : (ws : List ℕ) (f : Filled) → f .refusal ≢ 0 → fill q f ws m ≡ f
-  unfolding fill
-  refused-windows [] f h = refl
-  refused-windows (w ∷ ws) f h = ap (λ (g : Filled). fill q g ws m) (refused-rest q w f 0 m h) ∙ refused-windows ws f h
-
-  module _ (f : Filled) (left bound : ℕ) (h : 0 < left) {total : Filled} (i : fill q f (windowsFrom q left (nextWindow q bound)) m ≡ total) where
-    pub window-turn : (w : ℕ) {g : Filled} → nextWindow q bound ≡ At w → g ≡ fillWindow q f w 0 m
-        → fill q g (windowsFrom q (left - 1) (nextWindow q (w + 1))) m ≡ total
-    unfolding windowsFrom fill
-    window-turn w e k = let l : left ≡ suc (left - 1) = omega arith in rw (k, add-one w) (rw (l, e) at i)
-
-    pub window-last : (w : ℕ) {g : Filled} → nextWindow q bound ≡ At w → g ≡ fillWindow q f w 0 m → g .refusal ≢ 0 → g ≡ total
-    window-last w {g} e k z = sym (refused-windows (windowsFrom q (left - 1) (nextWindow q (w + 1))) g z) ∙ window-turn w e k
-
-    pub no-window : nextWindow q bound ≡ Missing → f ≡ total
-    unfolding windowsFrom fill
-    no-window e = let l : left ≡ suc (left - 1) = omega arith in rw (l, e) at i
-
-  pub windows-done : (f : Filled) (left bound : ℕ) {total : Filled} → left ≡ 0 → fill q f (windowsFrom q left (nextWindow q bound)) m ≡ total → f ≡ total
-  unfolding windowsFrom fill
-  windows-done f left bound e i = rw e at i
-
--- the windows are as many as the slots, at most
-pub windows-of : (q : Job) (n : ℕ) → slots (q .source .slab) ≡ n → windowsFrom q n (nextWindow q 0) ≡ windows q
-unfolding windows
-windows-of q n e = rw e
-
-pub one-fewer : (m left : ℕ) → 0 < left → m * left ≡ m + m * (left - 1)
-one-fewer m left h = let e : left ≡ suc (left - 1) = omega arith in ap (λ (k : ℕ). m * k) e ∙ omega (arith, mul-suc m (left - 1))
+pub refused-windows : (q : Job) (m : ℕ) (ws : List ℕ) (f : Filled) → f .refusal ≢ 0 → fill q f ws m ≡ f
+unfolding fill
+refused-windows q m [] f h = refl
+refused-windows q m (w ∷ ws) f h = ap (λ (g : Filled). fill q g ws m) (refused-rest q w f 0 m h) ∙ refused-windows q m ws f h

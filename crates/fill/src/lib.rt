@@ -1,11 +1,11 @@
-// A pair's writes over one image: windows ascending, columns ascending in each. The source is read as a part of the image, then the destination is lent on as
+// A window's writes over one image: columns ascending. The source is read as a part of the image, then the destination is lent on as
 // another part, one after the other; a refusal ends them. The source's bytes, and all others but the destination's, stay.
 ghost use mathlib.Core.Path.{_≡_};
-ghost use Prim.Native.Nat.{_+_, _*_, _<_, _≤_, _^_};
+ghost use Prim.Native.Nat.{_+_, _<_, _≤_, _^_};
 ghost use Rattle.model.specs.declared.Outcome.the-variants.{Accepted};
 ghost use Rattle.model.specs.Window.{windowAnswer};
-ghost use Rattle.model.specs.Consolidate.{writeAnswer, fillWindow, fill, windows};
-ghost use Rattle.fill.specs.Parts.{Lies, Covers, Whole, Keeps, sourceIn, jobOf, filledIn};
+ghost use Rattle.model.specs.Consolidate.{writeAnswer, fillWindow};
+ghost use Rattle.fill.specs.Parts.{Lies, Covers, Keeps, sourceIn, jobOf, filledIn};
 
 // A pair: where the source stands in the image and what is read of it, and the destination.
 pub struct Pair {
@@ -63,40 +63,6 @@ pub fn fill_window(
             return done;
         };
         column = column + 1;
-    }
-    done
-}
-
-// Every window: the next one is searched from behind the one before, and read from the whole reading order.
-pub fn fill_windows(
-    image: &mut [u8],
-    p: Pair,
-    filling: answers::Filling,
-    place: model::Place,
-) -> answers::Filling
-    requires { ⌜ Lies (now image) p × Whole (sourceIn (now image) p) (p .reading) place ⌝ }
-    requires { ⌜ (filling .outcome ≡ Accepted) × (filling .writes + p .reading .series * p .reading .slots ≤ 2 ^ 63) ⌝ }
-    ensures { λ r. ⌜ filledIn (now (image .exit)) p r ≡ fill (jobOf (now (image .entry)) p) (filledIn (now (image .entry)) p filling) (windows (jobOf (now (image .entry)) p)) (p .reading .series) ⌝ }
-    ensures { λ r. ⌜ Keeps (now (image .entry)) (now (image .exit)) p × (r .writes ≤ filling .writes + p .reading .series * p .reading .slots) ⌝ }
-{
-    let q = p.reading;
-    let from = p.from;
-    let to = p.to;
-    let mut done = filling;
-    let mut bound: u64 = 0;
-    let mut left = q.slots;
-    while 0 < left {
-        let next = search::next_window(&image[from..to], q, bound);
-        let model::End::At(w) = next else {
-            return done;
-        };
-        done = fill_window(image, p, done, w, place);
-        let outcome = done.outcome;
-        let model::Outcome::Accepted = outcome else {
-            return done;
-        };
-        bound = w + 1;
-        left = left - 1;
     }
     done
 }

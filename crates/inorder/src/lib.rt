@@ -46,24 +46,55 @@ fn fill_runs(
     done
 }
 
-// Every window of a pair.
+// Every window of a pair, strand by strand: the greatest part of what is left of the range whose windows never fall in reading order, then the next.
 pub fn fill_pair(image: &mut [u8], p: fill::Pair, filling: answers::Filling) -> answers::Filling
     requires { ⌜ Lies (now image) p ⌝ }
-    requires { ⌜ (filling .outcome ≡ Accepted) × (filling .writes + p .reading .series * p .reading .slots ≤ 2 ^ 63) ⌝ }
+    requires { ⌜ (filling .outcome ≡ Accepted) × (filling .writes + 2 * (p .reading .series * p .reading .slots) ≤ 2 ^ 63) ⌝ }
     ensures { λ r. ⌜ filledIn (now (image .exit)) p r ≡ fill (jobOf (now (image .entry)) p) (filledIn (now (image .entry)) p filling) (windows (jobOf (now (image .entry)) p)) (p .reading .series) ⌝ }
     ensures { λ r. ⌜ Keeps (now (image .entry)) (now (image .exit)) p × (r .writes ≤ filling .writes + p .reading .series * p .reading .slots) ⌝ }
 {
     let q = p.reading;
-    if q.end <= q.start {
-        return filling;
-    }
     let from = p.from;
     let to = p.to;
     let first = ring::first_place(&image[from..to], q.slots, q.series, q.wrapped);
-    let place = span::skip(&image[from..to], q, 0, 0, first);
-    let rising = span::ascends(&image[from..to], q, place);
-    if rising {
-        return fill_runs(image, p, filling, place);
+    let f = q.function;
+    let d = p.dest;
+    let end = q.end;
+    let mut start = q.start;
+    let mut done = filling;
+    while start < end {
+        let rest = window::Reading {
+            slots: q.slots,
+            series: q.series,
+            wrapped: q.wrapped,
+            function: f,
+            long: q.long,
+            start: start,
+            end: end,
+        };
+        let k = span::next_strand(&image[from..to], rest, first);
+        let reading = window::Reading {
+            slots: q.slots,
+            series: q.series,
+            wrapped: q.wrapped,
+            function: f,
+            long: q.long,
+            start: start,
+            end: k.end,
+        };
+        let part = fill::Pair {
+            from: from,
+            to: to,
+            reading: reading,
+            dest: d,
+        };
+        let place = k.place;
+        done = fill_runs(image, part, done, place);
+        let outcome = done.outcome;
+        let model::Outcome::Accepted = outcome else {
+            return done;
+        };
+        start = k.end;
     }
-    fill::fill_windows(image, p, filling, first)
+    done
 }

@@ -77,15 +77,15 @@ module _ (q : Job) where
 
   -- ---- how many of these slots are from the bound on: fewer, once the least of them is passed
 
-  one : Bool → ℕ
+  unfoldable pub one : Bool → ℕ
   one true = 1
   one false = 0
 
-  many : ℕ → List ℕ → ℕ
+  unfoldable pub many : ℕ → List ℕ → ℕ
   many b [] = 0
   many b (i ∷ is) = one (isNext q b (stampOf i)) + many b is
 
-  many-length : (b : ℕ) (is : List ℕ) → many b is ≤ length is
+  pub many-length : (b : ℕ) (is : List ℕ) → many b is ≤ length is
   unfolding many one
   many-length b [] = omega arith
   many-length b (i ∷ is) = go (isNext q b (stampOf i)) (many-length b is)
@@ -133,7 +133,7 @@ module _ (q : Job) where
   many-less b c h (i ∷ is) = omega (arith, one-less b c h (stampOf i), many-less b c h is)
 
   -- the least was there before, or one of these slots has it
-  passed : (b w : ℕ) → b ≤ w → (is : List ℕ) (e : End) → leastFrom q b e is ≡ At w → (e ≡ At w) ⊎ (many (suc w) is < many b is)
+  pub passed : (b w : ℕ) → b ≤ w → (is : List ℕ) (e : End) → leastFrom q b e is ≡ At w → (e ≡ At w) ⊎ (many (suc w) is < many b is)
   unfolding leastFrom many
   passed b w h [] e f = inl f
   passed b w h (i ∷ is) e f = go (isNext q b (stampOf i)) refl (passed b w h is (lowerIf (isNext q b (stampOf i)) e (windowAt i)) f)

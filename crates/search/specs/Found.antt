@@ -1,8 +1,7 @@
--- The search by one stamp more; and what is found: a window that is found starts at the bound or above it, and below the range's end. So windows ascend, and
--- none is found twice. And it is the start of a window. Assumes nothing.
+-- What the search finds: a window that is found starts at the bound or above it, and below the range's end. So windows ascend, and none is found twice. And it
+-- is the start of a window. Assumes nothing.
 use Prim.Native.Nat.{ℕ, _≤_, _<_}
 use native.Mathlib.Omega.{arith}
-use native.Mathlib.Nat.{div-mul-le-self}
 use mathlib.Core.Path.{_≡_, refl, subst}
 use mathlib.Core.Bool.{Bool, true, false, _&&_, cond}
 use mathlib.Core.List.{List, [], _∷_}
@@ -13,11 +12,8 @@ use Rattle.model.specs.Ring.{stamp, order}
 use Rattle.model.specs.Window.{Job, windowOf}
 use Rattle.model.specs.Consolidate.{lower, lowerIf, isNext, leastFrom, nextWindow}
 use Rattle.laws.specs.Tests.{le-is, lt-is}
+use Rattle.window.specs.Starts.{window-le}
 use Rattle.window.proofs.Laws.{window-again}
-
--- the least start so far, with the stamp t
-unfoldable pub considered : ℕ → ℕ → ℕ → ℕ → End → ℕ → End
-considered start end d bound least t = lowerIf (leb start t && ltb t end && leb bound (windowOf d t)) least (windowOf d t)
 
 -- a start that was found lies from the bound up to the end, and starts a window of length d
 abbrev Within : ℕ → ℕ → ℕ → End → Type 0
@@ -33,10 +29,6 @@ lower-within d bound end (At v) w h a = go (ltb w v)
     go true = a
     go false = h
 
-window-low : (d t : ℕ) → windowOf d t ≤ t
-unfolding windowOf
-window-low d t = div-mul-le-self t d
-
 one-within : (q : Job) → 0 < q .long → (bound : ℕ) (e : End) (t : ℕ) → Within (q .long) bound (q .end) e
     → Within (q .long) bound (q .end) (lowerIf (isNext q bound t) e (windowOf (q .long) t))
 unfolding isNext lowerIf
@@ -48,7 +40,7 @@ one-within q z bound e t h = go (leb (q .start) t) (ltb t (q .end)) refl (leb bo
     go true true p false r = h
     go true true p true r =
         lower-within (q .long) bound (q .end) e (windowOf (q .long) t) h
-        (le-is bound (windowOf (q .long) t) r, omega (arith, lt-is t (q .end) p, window-low (q .long) t), window-again (q .long) z t)
+        (le-is bound (windowOf (q .long) t) r, omega (arith, lt-is t (q .end) p, window-le (q .long) t), window-again (q .long) z t)
 
 least-within : (q : Job) → 0 < q .long → (bound : ℕ) (is : List ℕ) (e : End) → Within (q .long) bound (q .end) e
     → Within (q .long) bound (q .end) (leastFrom q bound e is)

@@ -23,12 +23,12 @@ unfoldable pub from : Job → ℕ → List ℕ → List ℕ
 from q limit [] = []
 from q limit (i ∷ is) = cond (isFrom (q .start) (q .end) limit (stamp (q .source .slab) i)) (i ∷ is) (from q limit is)
 
--- of these slots' stamps, those in the range never fall, and the first is not below `low`
+-- of these slots' stamps, those in the range have windows that never fall, and the first is not below `low`
 unfoldable pub rising : Job → ℕ → List ℕ → Bool
 rising q low [] = true
 rising q low (i ∷ is) =
     let t = stamp (q .source .slab) i in
-    cond (inRange (q .start) (q .end) t) (leb low t && rising q t is) (rising q low is)
+    cond (inRange (q .start) (q .end) t) (leb low (windowOf (q .long) t) && rising q (windowOf (q .long) t) is) (rising q low is)
 
 -- the place r is the place p with the slots before the limit passed over
 pub record Skipped (q : Job) (n limit : ℕ) (p r : Place) : Type 0 where

@@ -1,8 +1,8 @@
 -- A source read in order. Where its stamps in the range never fall in reading order, the windows that the search finds are those of the runs, in their order:
 -- the window of the first slot that is left is the next one found, the slots up to the first of a later window have all that it has, and as many turns as
 -- there are slots are enough. Assumes nothing.
-use Prim.Native.Nat.{ℕ, zero, suc, _+_, _-_, _*_, _/_, _≤_, _<_}
-use native.Mathlib.Nat.{zero-add, mul-le-mul-right, le-div-iff-mul-le, div-mul-le-self, suc-mul}
+use Prim.Native.Nat.{ℕ, zero, suc, _+_, _-_, _≤_, _<_}
+use native.Mathlib.Nat.{zero-add}
 use native.Mathlib.Omega.{arith}
 use native.Mathlib.Decide.{decLt}
 use mathlib.Core.Path.{_≡_, refl, sym, ap, _∙_}
@@ -20,30 +20,9 @@ use Rattle.model.specs.Window.{Job, windowOf, held, heldIn, seenOne, seen, keep
 use Rattle.model.specs.Consolidate.{Filled, lower, lowerIf, isNext, leastFrom, nextWindow, windowsFrom, windows, fillWindow, fill}
 use Rattle.laws.specs.Tests.{yes-le, yes-lt, no-le, no-lt, le-is, lt-is, and-left, and-right}
 use Rattle.window.specs.Parts.{along}
+use Rattle.window.specs.Starts.{window-low, window-next}
 use Rattle.window.proofs.Laws.{before-start, past-end, other-window}
 use Rattle.span.specs.Parts.{inRange, isFrom, from, rising}
-
--- ---- the windows of stamps
-
-module _ (d : ℕ) (z : 0 < d) where
-  pub window-mono : {t u : ℕ} → t ≤ u → windowOf d t ≤ windowOf d u
-  unfolding windowOf
-  window-mono {t} {u} h = mul-le-mul-right d (le-div-iff-mul-le z .1 (omega (arith, div-mul-le-self t d)))
-
-  -- the stamps below the end of t's window lie in it or before it; the others behind it
-  pub window-low : (t u : ℕ) → u < windowOf d t + d → windowOf d u < suc (windowOf d t)
-  unfolding windowOf
-  window-low t u h = go (decLt (t / d) (u / d))
-    where
-      go : Dec (t / d < u / d) → u / d * d < suc (t / d * d)
-      go (yes k) = absurd (omega (arith, mul-le-mul-right d k, div-mul-le-self u d))
-      go (no k) = let l : u / d ≤ t / d = omega arith in omega (arith, mul-le-mul-right d l)
-
-  pub window-high : (t u : ℕ) → windowOf d t + d ≤ u → suc (windowOf d t) ≤ windowOf d u
-  unfolding windowOf
-  window-high t u h =
-      let k : suc (t / d) ≤ u / d = le-div-iff-mul-le z .1 (omega (arith, suc-mul (t / d) d)) in
-      omega (arith, mul-le-mul-right d k, suc-mul (t / d) d)
 
 module _ (q : Job) where
   abbrev stampOf : ℕ → ℕ
@@ -52,11 +31,11 @@ module _ (q : Job) where
   abbrev inside : ℕ → Bool
   inside t = inRange (q .start) (q .end) t
 
-  inside-is : {t : ℕ} → inside t ≡ true → (q .start ≤ t) × (t < q .end)
+  pub inside-is : {t : ℕ} → inside t ≡ true → (q .start ≤ t) × (t < q .end)
   unfolding inRange
   inside-is {t} h = (le-is (q .start) t (and-left (leb (q .start) t) (ltb t (q .end)) h), lt-is t (q .end) (and-right (leb (q .start) t) (ltb t (q .end)) h))
 
-  inside-yes : {t : ℕ} → q .start ≤ t → t < q .end → inside t ≡ true
+  pub inside-yes : {t : ℕ} → q .start ≤ t → t < q .end → inside t ≡ true
   unfolding inRange
   inside-yes {t} h k = rw (yes-le (q .start) t h, yes-lt t (q .end) k)
 
@@ -139,21 +118,32 @@ module _ (q : Job) where
 
   abbrev Above : ℕ → List ℕ → Type 0
   Above low [] = Unit {0}
-  Above low (i ∷ is) = (inside (stampOf i) ≡ true → low ≤ stampOf i) × Above low is
+  Above low (i ∷ is) = (inside (stampOf i) ≡ true → low ≤ windowOf (q .long) (stampOf i)) × Above low is
 
   above-less : (low high : ℕ) → low ≤ high → (is : List ℕ) → Above high is → Above low is
   above-less low high h [] a = tt
   above-less low high h (i ∷ is) a = (λ e. omega (arith, a .0 e), above-less low high h is (a .1))
 
-  rising-in : (low i : ℕ) (is : List ℕ) → inside (stampOf i) ≡ true → rising q low (i ∷ is) ≡ true → (low ≤ stampOf i) × (rising q (stampOf i) is ≡ true)
+  pub rising-in : (low i : ℕ) (is : List ℕ) → inside (stampOf i) ≡ true → rising q low (i ∷ is) ≡ true
+      → (low ≤ windowOf (q .long) (stampOf i)) × (rising q (windowOf (q .long) (stampOf i)) is ≡ true)
   unfolding rising
   rising-in low i is e r =
-      let k : (leb low (stampOf i) && rising q (stampOf i) is) ≡ true = rw e at r in
-      (le-is low (stampOf i) (and-left (leb low (stampOf i)) (rising q (stampOf i) is) k), and-right (leb low (stampOf i)) (rising q (stampOf i) is) k)
+      let w = windowOf (q .long) (stampOf i) in
+      let k : (leb low w && rising q w is) ≡ true = rw e at r in
+      (le-is low w (and-left (leb low w) (rising q w is) k), and-right (leb low w) (rising q w is) k)
 
-  rising-out : (low i : ℕ) (is : List ℕ) → inside (stampOf i) ≡ false → rising q low (i ∷ is) ≡ true → rising q low is ≡ true
+  pub rising-out : (low i : ℕ) (is : List ℕ) → inside (stampOf i) ≡ false → rising q low (i ∷ is) ≡ true → rising q low is ≡ true
   unfolding rising
   rising-out low i is e r = rw e at r
+
+  pub rise-out : (low i : ℕ) (is : List ℕ) → inside (stampOf i) ≡ false → rising q low is ≡ true → rising q low (i ∷ is) ≡ true
+  unfolding rising
+  rise-out low i is e r = rw e r
+
+  pub rise-in : (low i : ℕ) (is : List ℕ) → inside (stampOf i) ≡ true → low ≤ windowOf (q .long) (stampOf i) → rising q (windowOf (q .long) (stampOf i)) is ≡ true
+      → rising q low (i ∷ is) ≡ true
+  unfolding rising
+  rise-in low i is e h r = rw (e, yes-le low (windowOf (q .long) (stampOf i)) h) r
 
   rising-above : (is : List ℕ) (low : ℕ) → rising q low is ≡ true → Above low is
   rising-above [] low r = tt
@@ -161,15 +151,15 @@ module _ (q : Job) where
     where
       go : (a : Bool) → inside (stampOf i) ≡ a → ((l : ℕ) → rising q l is ≡ true → Above l is) → Above low (i ∷ is)
       go false e ih = ((λ f. absurd (false≢true (sym e ∙ f))), ih low (rising-out low i is e r))
-      go true e ih = let k = rising-in low i is e r in ((λ f. k .0), above-less low (stampOf i) (k .0) is (ih (stampOf i) (k .1)))
+      go true e ih = let k = rising-in low i is e r in ((λ f. k .0), above-less low (windowOf (q .long) (stampOf i)) (k .0) is (ih (windowOf (q .long) (stampOf i)) (k .1)))
 
-  rising-less : (is : List ℕ) (low high : ℕ) → low ≤ high → rising q high is ≡ true → rising q low is ≡ true
+  pub rising-less : (is : List ℕ) (low high : ℕ) → low ≤ high → rising q high is ≡ true → rising q low is ≡ true
   rising-less [] low high h r = unfold rising in refl
   rising-less (i ∷ is) low high h r = go (inside (stampOf i)) refl (rising-less is low high h)
     where
       go : (a : Bool) → inside (stampOf i) ≡ a → (rising q high is ≡ true → rising q low is ≡ true) → rising q low (i ∷ is) ≡ true
       go false e ih = let k = ih (rising-out high i is e r) in unfold rising in rw e k
-      go true e ih = let k = rising-in high i is e r in unfold rising in rw (e, yes-le low (stampOf i) (omega (arith, k .0))) (k .1)
+      go true e ih = let k = rising-in high i is e r in unfold rising in rw (e, yes-le low (windowOf (q .long) (stampOf i)) (omega (arith, k .0))) (k .1)
 
   -- ---- the slots before a limit passed over
 
@@ -218,7 +208,7 @@ module _ (q : Job) where
         go true e ih = rw (from-stop i is e) (omega arith)
         go false e ih = rw (from-pass i is e) (omega arith)
 
-    rising-from : (is : List ℕ) (low : ℕ) → rising q low is ≡ true → rising q low (from q limit is) ≡ true
+    pub rising-from : (is : List ℕ) (low : ℕ) → rising q low is ≡ true → rising q low (from q limit is) ≡ true
     rising-from [] low r = unfold from in r
     rising-from (i ∷ is) low r = go (test i) refl (inside (stampOf i)) refl (rising-from is low)
       where
@@ -226,14 +216,15 @@ module _ (q : Job) where
             → rising q low (from q limit (i ∷ is)) ≡ true
         go true e b f ih = rw (from-stop i is e) r
         go false e false f ih = rw (from-pass i is e) (ih (rising-out low i is f r))
-        go false e true f ih = let k = rising-in low i is f r in rw (from-pass i is e) (ih (rising-less is low (stampOf i) (k .0) (k .1)))
+        go false e true f ih = let k = rising-in low i is f r in rw (from-pass i is e) (ih (rising-less is low (windowOf (q .long) (stampOf i)) (k .0) (k .1)))
 
-    head-above : (is : List ℕ) → Head limit is → rising q 0 is ≡ true → Above limit is
-    head-above [] h r = tt
-    head-above (i ∷ is) h r =
+    head-above : ((t : ℕ) → limit ≤ t → limit ≤ windowOf (q .long) t) → (is : List ℕ) → Head limit is → rising q 0 is ≡ true → Above limit is
+    head-above g [] h r = tt
+    head-above g (i ∷ is) h r =
         let f = from-is limit (stampOf i) h in
         let k = rising-in 0 i is (f .0) r in
-        ((λ e. f .1), above-less limit (stampOf i) (f .1) is (rising-above is (stampOf i) (k .1)))
+        let w = windowOf (q .long) (stampOf i) in
+        ((λ e. g (stampOf i) (f .1)), above-less limit w (g (stampOf i) (f .1)) is (rising-above is w (k .1)))
 
     -- the slots passed over have no window from the bound on
     module _ (bound : ℕ) (below : (t : ℕ) → t < limit → windowOf (q .long) t < bound) where
@@ -322,10 +313,10 @@ module _ (q : Job) where
     bound-low : r .bound ≤ here
     bound-low = r .high-edge (stampOf i) (in-here .1)
 
-    later : Above (stampOf i) is
-    later = rising-above is (stampOf i) (rising-in 0 i is (in-here .0) (r .up) .1)
+    later : Above here is
+    later = rising-above is here (rising-in 0 i is (in-here .0) (r .up) .1)
 
-    stays : (js : List ℕ) → Above (stampOf i) js → leastFrom q (r .bound) (At here) js ≡ At here
+    stays : (js : List ℕ) → Above here js → leastFrom q (r .bound) (At here) js ≡ At here
     unfolding leastFrom
     stays [] a = refl
     stays (j ∷ js) a = ap (λ (e : End). leastFrom q (r .bound) e js) (go (isNext q (r .bound) (stampOf j)) refl) ∙ stays js (a .1)
@@ -333,7 +324,7 @@ module _ (q : Job) where
         go : (b : Bool) → isNext q (r .bound) (stampOf j) ≡ b → lowerIf b (At here) (windowOf (q .long) (stampOf j)) ≡ At here
         go false e = unfold lowerIf in refl
         go true e =
-            unfold lowerIf lower isNext inRange in rw (no-lt (windowOf (q .long) (stampOf j)) here (window-mono (q .long) z (a .0 (and-left (inside (stampOf j)) (leb (r .bound) (windowOf (q .long) (stampOf j))) e))))
+            unfold lowerIf lower isNext inRange in rw (no-lt (windowOf (q .long) (stampOf j)) here ((a .0 (and-left (inside (stampOf j)) (leb (r .bound) (windowOf (q .long) (stampOf j))) e))))
 
     -- its window is the next one
     pub next-is : nextWindow q (r .bound) ≡ At here
@@ -346,18 +337,18 @@ module _ (q : Job) where
     rest = from q (here + q .long) is
 
     up-behind : rising q 0 is ≡ true
-    up-behind = let k = rising-in 0 i is (in-here .0) (r .up) in rising-less is 0 (stampOf i) (omega arith) (k .1)
+    up-behind = let k = rising-in 0 i is (in-here .0) (r .up) in rising-less is 0 here (omega arith) (k .1)
 
     -- and the slots up to the first of a later window have all of it
     pub run-same : (run : List ℕ) → i ∷ is ≡ run ++ rest → (c : ℕ) → windowAnswer q here c ≡ along q here c run
     run-same run e c =
         r .same here c bound-low ∙ ap (along q here c) e
         ∙ same-along here c (run ++ rest) run
-        (last-out here c run rest (none rest (head-above (here + q .long) rest (head-from (here + q .long) is) (rising-from (here + q .long) is 0 up-behind))))
+        (last-out here c run rest (none rest (head-above (here + q .long) (λ t h. window-next (q .long) z (stampOf i) t h) rest (head-from (here + q .long) is) (rising-from (here + q .long) is 0 up-behind))))
       where
         none : (js : List ℕ) → Above (here + q .long) js → Out here js
         none [] a = tt
-        none (j ∷ js) a = ((λ e g. omega (arith, window-high (q .long) z (stampOf i) (stampOf j) (a .0 e))), none js (a .1))
+        none (j ∷ js) a = ((λ e g. omega (arith, z, a .0 e)), none js (a .1))
 
     -- its columns written, the rest is left
     pub run-done : {g : Filled} → g ≡ fillWindow q f here 0 m → Rest m total g rest
@@ -366,7 +357,7 @@ module _ (q : Job) where
       limit = here + q .long;
       fuel = r .fuel - 1;
       low-edge = low;
-      high-edge = λ t h. window-high (q .long) z (stampOf i) t h;
+      high-edge = λ t h. omega (arith, z, window-next (q .long) z (stampOf i) t h);
       head = head-from (here + q .long) is;
       up = rising-from (here + q .long) is 0 up-behind;
       enough = omega (arith, r .enough, length-from (here + q .long) is);

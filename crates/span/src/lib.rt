@@ -1,10 +1,11 @@
 // A source whose stamps never fall in reading order, met window by window: the slots before a limit are passed over, and the slots of one window are a run.
 // `specs/Rest.antt` has the laws: such runs are the windows that the search finds, in its order, and a run has all that its window has.
 ghost use mathlib.Core.Path.{_≡_};
-ghost use Prim.Native.Nat.{_+_, _<_, _≤_};
-ghost use Rattle.model.specs.Ring.{walk};
+ghost use Prim.Native.Nat.{suc, _+_, _%_, _<_, _≤_};
 ghost use Rattle.window.specs.Parts.{Readable, jobIn};
-ghost use Rattle.span.specs.Parts.{inRange, isFrom, rising, Skipped, Ran};
+ghost use Rattle.rings.specs.Walk.{steps};
+ghost use Rattle.span.specs.Parts.{inRange, isFrom, Skipped, Ran};
+ghost use Rattle.span.specs.Strand.{Meets, Stranded};
 
 // A window, the slots that have it, and the place behind them.
 pub struct Run {
@@ -66,31 +67,6 @@ pub fn skip(
     }
 }
 
-// The stamps in the range never fall from the place on.
-pub fn ascends(slab: &[u8], q: window::Reading, place: model::Place) -> bool
-    requires { ⌜ Readable (now slab) q ⌝ }
-    requires { ⌜ place .slot < q .slots ⌝ }
-    ensures { λ r. ⌜ r ≡ rising (jobIn (now (slab .entry)) q) 0 (walk (q .slots) (place .slot) (place .left)) ⌝ }
-{
-    let mut slot = place.slot;
-    let mut left = place.left;
-    let mut low: u64 = 0;
-    while 0 < left {
-        let t = ring::stamp_of(slab, q.slots, q.series, slot);
-        slot = ring::next_slot(q.slots, slot);
-        left = left - 1;
-        let inside = in_range(q, t);
-        if !inside {
-            continue;
-        }
-        if t < low {
-            return false;
-        }
-        low = t;
-    }
-    true
-}
-
 // The window of a place's first slot, and its run.
 pub fn next_run(slab: &[u8], q: window::Reading, place: model::Place) -> Run
     requires { ⌜ Readable (now slab) q ⌝ }
@@ -115,5 +91,112 @@ pub fn next_run(slab: &[u8], q: window::Reading, place: model::Place) -> Run
         window: w,
         run: run,
         rest: rest,
+    }
+}
+
+// A part of the range, from its start up to this end, whose windows never fall in reading order; and the place of its first slot.
+pub struct Strand {
+    pub place: model::Place,
+    pub end: u64,
+}
+
+// What was met against the reading order: the end so far, the least window from there on, and the place of the first slot in the part.
+struct Edge {
+    end: u64,
+    low: u64,
+    place: model::Place,
+}
+
+// The slot before a slot, round the ring.
+fn slot_before(n: usize, slot: usize) -> usize
+    requires { ⌜ slot < n ⌝ }
+    ensures { λ r. ⌜ (suc r % n ≡ slot) × (r < n) ⌝ }
+{
+    if slot == 0 {
+        return n - 1;
+    }
+    slot - 1
+}
+
+// The slot behind a place.
+fn slot_behind(n: usize, place: model::Place) -> usize
+    requires { ⌜ (place .slot < n) × (place .left ≤ n) × (n < 4294967296) ⌝ }
+    ensures { λ r. ⌜ (r ≡ steps n (place .slot) (place .left)) × (r < n) ⌝ }
+{
+    let next = place.slot + place.left;
+    if next < n {
+        return next;
+    }
+    next - n
+}
+
+// One slot more, before those that were met. A window above the least of those behind it falls out of the part, and the end comes down to it.
+fn meet(q: window::Reading, e: Edge, stamp: u64, here: model::Place) -> Edge
+    requires { ⌜ 0 < q .long ⌝ }
+    ensures { λ r. ⌜ Meets (q .start) (q .long) (e .end) (e .low) (e .place) stamp here (r .end) (r .low) (r .place) ⌝ }
+{
+    let end = e.end;
+    let low = e.low;
+    let place = e.place;
+    if stamp < q.start {
+        return e;
+    }
+    if stamp >= end {
+        return e;
+    }
+    if stamp < low {
+        let w = window::window_of(q.long, stamp);
+        return Edge {
+            end: end,
+            low: w,
+            place: here,
+        };
+    }
+    if q.long <= stamp - low {
+        let w = window::window_of(q.long, stamp);
+        return Edge {
+            end: w,
+            low: low,
+            place: place,
+        };
+    }
+    Edge {
+        end: end,
+        low: low,
+        place: here,
+    }
+}
+
+// The greatest such part, in one pass against the reading order.
+pub fn next_strand(slab: &[u8], q: window::Reading, first: model::Place) -> Strand
+    requires { ⌜ Readable (now slab) q ⌝ }
+    requires { ⌜ (first .slot < q .slots) × (first .left ≤ q .slots) ⌝ }
+    ensures { λ r. ⌜ Stranded (jobIn (now (slab .entry)) q) (q .slots) first r ⌝ }
+{
+    let mut slot = slot_behind(q.slots, first);
+    let none = model::Place {
+        slot: slot,
+        left: 0,
+    };
+    let mut e = Edge {
+        end: q.end,
+        low: q.end,
+        place: none,
+    };
+    let mut met = 0;
+    while met < first.left {
+        slot = slot_before(q.slots, slot);
+        met = met + 1;
+        let t = ring::stamp_of(slab, q.slots, q.series, slot);
+        let here = model::Place {
+            slot: slot,
+            left: met,
+        };
+        e = meet(q, e, t, here);
+    }
+    let place = e.place;
+    Strand {
+        place: place,
+        end: e.end,
     }
 }
