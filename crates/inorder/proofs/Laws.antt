@@ -2,22 +2,19 @@
 use Prim.Native.Nat.{ℕ, suc, _+_, _*_, _-_, _%_, _≤_, _<_}
 use native.Mathlib.Omega.{arith}
 use native.Mathlib.Nat.{mul-le-mul-left, mul-suc}
-use mathlib.Core.Path.{_≡_, refl, sym, ap, _∙_, subst}
+use mathlib.Core.Path.{_≡_, sym, ap, _∙_, subst}
 use mathlib.Core.Logic.{_≢_}
-use mathlib.Core.Bool.{Bool, true}
 use mathlib.Core.List.{List, [], _∷_, _++_}
-use lib.ListN.{length}
 use Rattle.model.specs.declared.Place.{Place}
-use Rattle.model.specs.Ring.{stamp, walk, order, firstPlace, slots}
+use Rattle.model.specs.Ring.{stamp, walk, firstPlace, slots}
 use Rattle.model.specs.Window.{Job, windowOf}
-use Rattle.model.specs.Consolidate.{Filled, nextWindow, windowsFrom, windows, fillWindow, fill}
+use Rattle.model.specs.Consolidate.{Filled, nextWindow, windowsFrom, fillWindow}
 use Rattle.window.specs.declared.Reading.{Reading}
 use Rattle.window.specs.Parts.{Readable, jobIn}
 use Rattle.window.proofs.Laws.{order-is, window-again}
 use Rattle.span.specs.declared.Run.{Run}
-use Rattle.span.specs.Parts.{from, rising, Skipped, Ran}
-use Rattle.rings.specs.Numbers.{length-walk}
-use Rattle.span.specs.Rest.{Rest, begin, nothing-left, run-same, run-done}
+use Rattle.span.specs.Parts.{from, Ran}
+use Rattle.span.specs.Rest.{Rest, nothing-left, run-same, run-done}
 use Rattle.span.proofs.Laws.{walk-first}
 use Rattle.fill.specs.Parts.{Covers, Whole}
 use Rattle.fill.proofs.Laws.{refused-windows}
@@ -30,14 +27,6 @@ module _ (s : List ℕ) (q : Reading) (h : Readable s q) where
 
   pub first-whole : {p : Place} → p ≡ firstPlace (job .source) → p .slot < q .slots → p .left ≤ q .slots → Whole s q p
   first-whole e a b = record { slot-in = a; few-left = b; order-is = order-is (h .sized) (q .wrapped) e }
-
-  pub first-rest : (m : ℕ) (f : Filled) {p r : Place} → Whole s q p → Skipped job (q .slots) 0 p r
-      → rising job 0 (walk (q .slots) (r .slot) (r .left)) ≡ true
-      → Rest job m (fill job f (windows job) m) f (walk (q .slots) (r .slot) (r .left))
-  first-rest m f {p} {r} w k e =
-      let o : walk (q .slots) (r .slot) (r .left) ≡ from job 0 (order (job .source)) = k .rest-is ∙ ap (from job 0) (w .order-is) in
-      let l : length (order (job .source)) ≡ p .left = ap length (sym (w .order-is)) ∙ length-walk (q .slots) (p .slot) (p .left) in
-      rw o (begin job m f (omega (arith, l, w .few-left, h .sized .slots-is)) (rw o at e))
 
   -- ---- a run
 

@@ -1,105 +1,79 @@
--- One strand filled: the windows of the rest are left; and a strand is read run by run. Assumes nothing.
-use Prim.Native.Nat.{ℕ, zero, suc, _+_, _*_, _≤_, _<_}
-use native.Mathlib.Nat.{mul-suc}
+-- One strand filled: the windows of the rest of the range are left; a strand is read run by run; and behind each strand but the last the reading order is cut.
+-- Assumes nothing.
+use Prim.Native.Nat.{ℕ, _+_, _≤_, _<_}
 use native.Mathlib.Omega.{arith}
-use mathlib.Core.Path.{_≡_, refl, sym, ap, _∙_, subst}
-use mathlib.Core.Logic.{_⊎_, inl, inr}
-use mathlib.Core.Bool.{Bool, true}
-use mathlib.Core.List.{List, [], _∷_}
+use native.Mathlib.Numerals.{add-one}
+use mathlib.Core.Path.{_≡_, sym, ap, _∙_, subst}
+use mathlib.Core.Logic.{_⊎_, inl, inr, _≢_}
+use mathlib.Core.Bool.{true}
+use mathlib.Core.List.{List}
 use lib.ListN.{length}
 use Rattle.model.specs.declared.Place.{Place}
 use Rattle.model.specs.Ring.{walk, order, slots}
-use Rattle.model.specs.Window.{Job, windowOf}
-use Rattle.model.specs.declared.End.{End}
-use Rattle.model.specs.declared.End.the-variants.{At, Missing}
-use Rattle.model.specs.declared.WindowAnswer.{WindowAnswer}
-use Rattle.model.specs.declared.WindowAnswer.the-variants.{Empty, Number, NothingFinite}
-use Rattle.model.specs.Window.{windowAnswer}
-use Rattle.model.specs.Layout.{freshValue}
-use lib.Ieee.{binary64, toBits}
-use Rattle.model.specs.Consolidate.{Filled, nextWindow, windowsFrom, windows, writeCheck, writeOn, writeBits, writeAnswer, unlessRefused, fillWindow, fill}
-use Rattle.fill.specs.declared.Pair.{Pair}
-use Rattle.fill.specs.Parts.{Lies, Keeps, Whole, sourceIn, jobOf, filledIn}
-use Rattle.fill.proofs.Laws.{refused-windows}
-use Rattle.answers.specs.declared.Filling.{Filling}
-use Rattle.window.specs.Parts.{jobIn}
-use mathlib.Core.Logic.{_≢_}
+use Rattle.model.specs.Window.{Job}
+use Rattle.model.specs.Consolidate.{Filled, windows, fill}
 use Rattle.rings.specs.Numbers.{length-walk}
-use native.Mathlib.Nat.{mul-le-mul-left}
-use Rattle.inorder.specs.Parts.{inPart}
+use Rattle.strand_theory.specs.Cuts.{Cut, Cuts, more, Passes}
+use Rattle.window.specs.Parts.{jobIn}
 use Rattle.search.specs.Cut.{upto, onward, cut-fill}
 use Rattle.span.specs.declared.Strand.{Strand}
 use Rattle.span.specs.Parts.{from, rising}
-use Rattle.span.specs.Strand.{Stranded}
+use Rattle.span.specs.Strand.{Stranded, cut-edge}
 use Rattle.span.specs.Rest.{Rest, begin, empty-range, rising-from}
+use Rattle.answers.specs.declared.Filling.{Filling}
+use Rattle.fill.specs.declared.Pair.{Pair}
+use Rattle.fill.specs.Parts.{Lies, Keeps, Whole, sourceIn, jobOf, filledIn}
+use Rattle.fill.proofs.Laws.{refused-windows}
+use Rattle.inorder.specs.Parts.{inPart}
+
+-- ---- a strand of a job
 
 module _ (q : Job) (z : 0 < q .long) (n : ℕ) {p : Place} {k : Strand} (s : Stranded q n p k) (o : walk n (p .slot) (p .left) ≡ order (q .source))
     (l : length (order (q .source)) ≤ slots (q .source .slab)) where
-  pub strand-turn : (m : ℕ) (f : Filled) {g total : Filled} → g ≡ fill (upto q (k .end)) f (windows (upto q (k .end))) m → fill q f (windows q) m ≡ total
+  -- its windows filled, those of the rest of the range are left
+  strand-turn : (m : ℕ) (f : Filled) {g total : Filled} → g ≡ fill (upto q (k .end)) f (windows (upto q (k .end))) m → fill q f (windows q) m ≡ total
       → fill (onward q (k .end)) g (windows (onward q (k .end))) m ≡ total
   strand-turn m f {g} {total} e t = go (s .end-is)
     where
-      go : (k .end ≡ q .end) ⊎ ((windowOf (q .long) (k .end) ≡ k .end) × (q .start < k .end) × (k .end ≤ q .end))
-          → fill (onward q (k .end)) g (windows (onward q (k .end))) m ≡ total
+      go : (k .end ≡ q .end) ⊎ Cut q (walk n (p .slot) (p .left)) (q .start) (k .end) → fill (onward q (k .end)) g (windows (onward q (k .end))) m ≡ total
       go (inl h) =
           sym (empty-range (onward q (k .end)) m g (omega (arith, h))) ∙ e
           ∙ ap (λ (b : ℕ). fill (upto q b) f (windows (upto q b)) m) h ∙ t
-      go (inr h) =
+      go (inr c) =
+          let h = cut-edge q z c in
           ap (λ (x : Filled). fill (onward q (k .end)) x (windows (onward q (k .end))) m) e
           ∙ sym (cut-fill q z (k .end) (h .0) (omega (arith, h .1)) (h .2) l m f) ∙ t
 
-  pub strand-rest : (m : ℕ) (f : Filled) → Rest (upto q (k .end)) m (fill (upto q (k .end)) f (windows (upto q (k .end))) m) f (walk n (k .place .slot) (k .place .left))
+  -- the slots from its place on have its windows, run by run
+  strand-rest : (m : ℕ) (f : Filled)
+      → Rest (upto q (k .end)) m (fill (upto q (k .end)) f (windows (upto q (k .end))) m) f (walk n (k .place .slot) (k .place .left))
   strand-rest m f =
-      let a : walk n (k .place .slot) (k .place .left) ≡ from (upto q (k .end)) 0 (order (q .source)) = s .rest-is ∙ ap (from (upto q (k .end)) 0) o in
-      let u : rising (upto q (k .end)) 0 (order (q .source)) ≡ true = subst (λ (is : List ℕ). rising (upto q (k .end)) 0 is ≡ true) o (s .up) in
-      rw a (begin (upto q (k .end)) m f l (rising-from (upto q (k .end)) 0 (order (q .source)) 0 u))
+      let u = upto q (k .end) in
+      let a : walk n (k .place .slot) (k .place .left) ≡ from u 0 (order (q .source)) = s .rest-is ∙ ap (from u 0) o in
+      let b : rising u 0 (order (q .source)) ≡ true = subst (λ (is : List ℕ). rising u 0 is ≡ true) o (s .up) in
+      rw a (begin u m f l (rising-from u 0 (order (q .source)) 0 b))
 
--- ---- how many writes
+-- ---- how many strands
 
-record Few (a b j : ℕ) : Type 0 where
-  no-less : a ≤ b
-  no-more : b ≤ a + j
+-- n strands up to the stamp a: behind each of them the reading order is cut, or the range is done
+abbrev pub Strands : Job → ℕ → ℕ → Type 0
+Strands q n a = Cuts q n a ⊎ ((q .end ≤ a) × Passes q n)
 
-on-few : (n : ℕ) (f : Filled) (w c v : ℕ) → Few (f .writes) (writeOn n f w c v .writes) 1
-unfolding writeOn
-on-few zero f w c v = record { no-less = omega arith; no-more = omega arith }
-on-few (suc n) f w c v = record { no-less = omega arith; no-more = omega arith }
+pub passes : {q : Job} {n a : ℕ} → Strands q n a → Passes q n
+passes {q} {n} {a} (inl c) = record { cuts = n; last = a; cut = c; few = omega arith }
+passes (inr h) = h .1
 
-answer-few : (x : WindowAnswer) (f : Filled) (w c : ℕ) → Few (f .writes) (writeAnswer x f w c .writes) 1
-unfolding writeAnswer writeBits
-answer-few Empty f w c = record { no-less = omega arith; no-more = omega arith }
-answer-few (Number x) f w c = on-few (writeCheck (toBits binary64 x) w) f w c (toBits binary64 x)
-answer-few NothingFinite f w c = on-few (writeCheck freshValue w) f w c freshValue
-
-unless-few : (n : ℕ) (f g : Filled) → Few (f .writes) (g .writes) 1 → Few (f .writes) (unlessRefused n f g .writes) 1
-unfolding unlessRefused
-unless-few zero f g h = h
-unless-few (suc n) f g h = record { no-less = omega arith; no-more = omega arith }
-
-columns-few : (q : Job) (w j c : ℕ) (f : Filled) → Few (f .writes) (fillWindow q f w c j .writes) j
-unfolding fillWindow
-columns-few q w zero c f = record { no-less = omega arith; no-more = omega arith }
-columns-few q w (suc j) c f =
-    let g = unlessRefused (f .refusal) f (writeAnswer (windowAnswer q w c) f w c) in
-    let a = unless-few (f .refusal) f (writeAnswer (windowAnswer q w c) f w c) (answer-few (windowAnswer q w c) f w c) in
-    let b = columns-few q w j (suc c) g in
-    record { no-less = omega (arith, a .no-less, b .no-less); no-more = omega (arith, a .no-more, b .no-more) }
-
-fill-few : (q : Job) (m : ℕ) (ws : List ℕ) (f : Filled) → Few (f .writes) (fill q f ws m .writes) (m * length ws)
-unfolding fill
-fill-few q m [] f = record { no-less = omega arith; no-more = omega arith }
-fill-few q m (w ∷ ws) f =
-    let a = columns-few q w m 0 f in
-    let b = fill-few q m ws (fillWindow q f w 0 m) in
-    record { no-less = omega (arith, a .no-less, b .no-less); no-more = omega (arith, a .no-more, b .no-more, mul-suc m (length ws)) }
-
-few-windows : (q : Job) (k : ℕ) (e : End) → length (windowsFrom q k e) ≤ k
-few-windows q zero e = unfold windowsFrom in omega arith
-few-windows q (suc k) Missing = unfold windowsFrom in omega arith
-few-windows q (suc k) (At w) = go (few-windows q k (nextWindow q (suc w)))
-  where
-    go : length (windowsFrom q k (nextWindow q (suc w))) ≤ k → length (windowsFrom q (suc k) (At w)) ≤ suc k
-    go h = unfold windowsFrom in omega (arith, h)
+-- a cut of what is left of the range is one of the range
+cut-left : {q : Job} {is : List ℕ} {a e : ℕ} → Cut (onward q a) is a e → Cut q is a e
+cut-left c = record {
+  high = c .high;
+  low = c .low;
+  before = c .before;
+  high-is = c .high-is;
+  high-below = c .high-below;
+  low-from = c .low-from;
+  low-under = c .low-under;
+}
 
 -- ---- a pair whose range is a part
 
@@ -134,64 +108,66 @@ keeps-part l a e k = record {
   };
 }
 
--- ---- a turn
+-- ---- a turn: the image was s0, and is s; the range is done up to a
 
-module _ (s0 s : List ℕ) (p : Pair) (a : ℕ) {f : Place} {k : Strand} (done : Filling) (l0 : Lies s0 p) (kp : Keeps s0 s p) (wh : Whole (sourceIn s0 p) (p .reading) f)
-    (st : Stranded (jobIn (sourceIn s p) (inPart p a (p .reading .end) .reading)) (p .reading .slots) f k) where
-  abbrev left0 : Pair
-  left0 = inPart p a (p .reading .end)
+module _ (s0 s : List ℕ) (p : Pair) (a : ℕ) (l0 : Lies s0 p) (kp : Keeps s0 s p) {f : Place} (wh : Whole (sourceIn s0 p) (p .reading) f) {k : Strand}
+    (st : Stranded (onward (jobOf s p) a) (p .reading .slots) f k) where
+  abbrev job : Job
+  job = jobOf s0 p
 
-  abbrev here0 : Pair
-  here0 = inPart p a (k .end)
+  abbrev m : ℕ
+  m = p .reading .series
 
-  st0 : Stranded (jobOf s0 left0) (p .reading .slots) f k
-  st0 = subst (λ (x : List ℕ). Stranded (jobIn x (left0 .reading)) (p .reading .slots) f k) (kp .source-is) st
+  abbrev here : Job
+  here = jobOf s (inPart p a (k .end))
 
-  len : length (order (jobOf s0 left0 .source)) ≤ slots (jobOf s0 left0 .source .slab)
+  abbrev rest : Job
+  rest = onward job (k .end)
+
+  st0 : Stranded (onward job a) (p .reading .slots) f k
+  st0 = subst (λ (x : List ℕ). Stranded (onward (jobIn x (p .reading)) a) (p .reading .slots) f k) (kp .source-is) st
+
+  len : length (order (job .source)) ≤ slots (job .source .slab)
   len =
-      let e : length (order (jobOf s0 left0 .source)) ≡ f .left = ap length (sym (wh .order-is)) ∙ length-walk (p .reading .slots) (f .slot) (f .left) in
+      let e : length (order (job .source)) ≡ f .left = ap length (sym (wh .order-is)) ∙ length-walk (p .reading .slots) (f .slot) (f .left) in
       omega (arith, e, wh .few-left, l0 .readable .sized .slots-is)
 
   pub end-low : k .end ≤ p .reading .end
-  end-low = go (st .end-is)
+  end-low = go (st0 .end-is)
     where
-      go : (k .end ≡ p .reading .end) ⊎ ((windowOf (p .reading .long) (k .end) ≡ k .end) × (a < k .end) × (k .end ≤ p .reading .end)) → k .end ≤ p .reading .end
+      go : (k .end ≡ job .end) ⊎ Cut (onward job a) (walk (p .reading .slots) (f .slot) (f .left)) a (k .end) → k .end ≤ p .reading .end
       go (inl h) = omega (arith, h)
-      go (inr h) = h .2
+      go (inr c) = cut-edge (onward job a) (l0 .readable .some-long) c .2
 
   pub gone-on : a < p .reading .end → a < k .end
-  gone-on u = go (st .end-is)
+  gone-on u = go (st0 .end-is)
     where
-      go : (k .end ≡ p .reading .end) ⊎ ((windowOf (p .reading .long) (k .end) ≡ k .end) × (a < k .end) × (k .end ≤ p .reading .end)) → a < k .end
+      go : (k .end ≡ job .end) ⊎ Cut (onward job a) (walk (p .reading .slots) (f .slot) (f .left)) a (k .end) → a < k .end
       go (inl h) = omega (arith, h)
-      go (inr h) = h .1
+      go (inr c) = cut-edge (onward job a) (l0 .readable .some-long) c .1
 
-  pub part-rest : Rest (jobOf s here0) (p .reading .series) (fill (jobOf s here0) (filledIn s p done) (windows (jobOf s here0)) (p .reading .series)) (filledIn s p done)
-      (walk (p .reading .slots) (k .place .slot) (k .place .left))
-  part-rest =
-      subst (λ (x : List ℕ). Rest (jobIn x (here0 .reading)) (p .reading .series) (fill (jobIn x (here0 .reading)) (filledIn s p done) (windows (jobIn x (here0 .reading))) (p .reading .series)) (filledIn s p done) (walk (p .reading .slots) (k .place .slot) (k .place .left)))
-      (sym (kp .source-is)) (strand-rest (jobOf s0 left0) (l0 .readable .some-long) (p .reading .slots) st0 (wh .order-is) len (p .reading .series) (filledIn s p done))
+  pub one-strand : {n : ℕ} → a < p .reading .end → Strands job n a → Strands job (n + 1) (k .end)
+  one-strand {n} u (inr h) = absurd (omega (arith, h .0))
+  one-strand {n} u (inl c) = go (st0 .end-is)
+    where
+      go : (k .end ≡ job .end) ⊎ Cut (onward job a) (walk (p .reading .slots) (f .slot) (f .left)) a (k .end) → Strands job (n + 1) (k .end)
+      go (inl h) = inr (omega (arith, h), record { cuts = n; last = a; cut = c; few = omega arith })
+      go (inr x) =
+          let y : Cut job (order (job .source)) a (k .end) = cut-left (subst (λ (is : List ℕ). Cut (onward job a) is a (k .end)) (wh .order-is) x) in
+          inl (rw add-one (more c y))
 
-  module _ {total : Filled} (inv : fill (jobOf s0 left0) (filledIn s p done) (windows (jobOf s0 left0)) (p .reading .series) ≡ total) where
-    pub part-turn : (t : List ℕ) (r : Filling) → filledIn t p r ≡ fill (jobOf s here0) (filledIn s p done) (windows (jobOf s here0)) (p .reading .series)
-        → fill (jobOf s0 (inPart p (k .end) (p .reading .end))) (filledIn t p r) (windows (jobOf s0 (inPart p (k .end) (p .reading .end)))) (p .reading .series) ≡ total
-    part-turn t r e =
-        strand-turn (jobOf s0 left0) (l0 .readable .some-long) (p .reading .slots) st0 (wh .order-is) len (p .reading .series) (filledIn s p done)
-        (subst (λ (x : List ℕ). filledIn t p r ≡ fill (jobIn x (here0 .reading)) (filledIn s p done) (windows (jobIn x (here0 .reading))) (p .reading .series)) (kp .source-is) e) inv
+  pub part-rest : (done : Filling)
+      → Rest here m (fill here (filledIn s p done) (windows here) m) (filledIn s p done) (walk (p .reading .slots) (k .place .slot) (k .place .left))
+  part-rest done =
+      rw (kp .source-is) (strand-rest (onward job a) (l0 .readable .some-long) (p .reading .slots) st0 (wh .order-is) len m (filledIn s p done))
 
-    pub part-last : (t : List ℕ) (r : Filling) → filledIn t p r ≡ fill (jobOf s here0) (filledIn s p done) (windows (jobOf s here0)) (p .reading .series)
-        → filledIn t p r .refusal ≢ 0 → filledIn t p r ≡ total
-    part-last t r e n =
-        sym (refused-windows (jobOf s0 (inPart p (k .end) (p .reading .end))) (p .reading .series) (windows (jobOf s0 (inPart p (k .end) (p .reading .end)))) (filledIn t p r) n)
-        ∙ part-turn t r e
+  module _ (done : Filling) {total : Filled} (left : fill (onward job a) (filledIn s p done) (windows (onward job a)) m ≡ total) (t : List ℕ) (r : Filling)
+      (e : filledIn t p r ≡ fill here (filledIn s p done) (windows here) m) where
+    pub part-turn : fill rest (filledIn t p r) (windows rest) m ≡ total
+    part-turn =
+        strand-turn (onward job a) (l0 .readable .some-long) (p .reading .slots) st0 (wh .order-is) len m (filledIn s p done)
+        (subst (λ (x : List ℕ). filledIn t p r ≡ fill (jobIn x (inPart p a (k .end) .reading)) (filledIn s p done) (windows (jobIn x (inPart p a (k .end) .reading))) m)
+        (kp .source-is) e) left
 
--- what is left of a total that all the windows of a pair make of f
-pub writes-few : (s0 : List ℕ) (p : Pair) → Lies s0 p → (q : Job) (ws : List ℕ) (m : ℕ) (g f : Filled) → fill q g ws m ≡ fill (jobOf s0 p) f (windows (jobOf s0 p)) m
-    → g .writes ≤ f .writes + m * p .reading .slots
-writes-few s0 p l q ws m g f e =
-    let a = fill-few q m ws g in
-    let b = fill-few (jobOf s0 p) m (windows (jobOf s0 p)) f in
-    let n : length (windows (jobOf s0 p)) ≤ slots (jobOf s0 p .source .slab) = unfold windows in few-windows (jobOf s0 p) (slots (jobOf s0 p .source .slab)) (nextWindow (jobOf s0 p) 0) in
-    let n2 : length (windows (jobOf s0 p)) ≤ p .reading .slots = omega (arith, n, l .readable .sized .slots-is) in
-    let w : fill q g ws m .writes ≡ fill (jobOf s0 p) f (windows (jobOf s0 p)) m .writes = ap (λ (x : Filled). x .writes) e in
-    omega (arith, a .no-less, b .no-more, mul-le-mul-left m n2, w)
+    pub part-last : filledIn t p r .refusal ≢ 0 → filledIn t p r ≡ total
+    part-last n = sym (refused-windows rest m (windows rest) (filledIn t p r) n) ∙ part-turn

@@ -1,12 +1,20 @@
-// A pair's writes. Where the source's stamps in the range never fall in reading order, its windows are runs of slots, one behind the other: each stamp is read
-// once for its window and once for each column. Where they fall, the next window is searched each time (`fill`). Both ways do what `fill` of the model says.
+// A pair's writes. Where the windows of the source's stamps never fall in reading order, they are runs of slots, one behind the other: each stamp is read once
+// for its window and once for each column. Where they fall, the range is read in parts, strand by strand, each of which has windows that never fall.
 ghost use mathlib.Core.Path.{_≡_};
 ghost use Prim.Native.Nat.{_+_, _*_, _<_, _≤_, _^_};
 ghost use Rattle.model.specs.declared.Outcome.the-variants.{Accepted};
 ghost use Rattle.model.specs.Ring.{walk};
 ghost use Rattle.model.specs.Consolidate.{fill, windows};
+ghost use Rattle.strand_theory.specs.Cuts.{Passes};
 ghost use Rattle.fill.specs.Parts.{Lies, Keeps, jobOf, filledIn};
 ghost use Rattle.span.specs.Rest.{Rest};
+ghost use Rattle.inorder.specs.Parts.{inPart};
+
+// A pair filled, and in how many strands.
+pub struct Passed {
+    pub filling: answers::Filling,
+    pub strands: u64,
+}
 
 // Every window, run by run.
 fn fill_runs(
@@ -46,55 +54,62 @@ fn fill_runs(
     done
 }
 
+// The pair, its range a part.
+fn part_of(p: fill::Pair, start: u64, end: u64) -> fill::Pair
+    ensures { λ r. ⌜ r ≡ inPart p start end ⌝ }
+{
+    let q = p.reading;
+    let f = q.function;
+    let d = p.dest;
+    let reading = window::Reading {
+        slots: q.slots,
+        series: q.series,
+        wrapped: q.wrapped,
+        function: f,
+        long: q.long,
+        start: start,
+        end: end,
+    };
+    fill::Pair {
+        from: p.from,
+        to: p.to,
+        reading: reading,
+        dest: d,
+    }
+}
+
 // Every window of a pair, strand by strand: the greatest part of what is left of the range whose windows never fall in reading order, then the next.
-pub fn fill_pair(image: &mut [u8], p: fill::Pair, filling: answers::Filling) -> answers::Filling
+pub fn fill_pair(image: &mut [u8], p: fill::Pair, filling: answers::Filling) -> Passed
     requires { ⌜ Lies (now image) p ⌝ }
     requires { ⌜ (filling .outcome ≡ Accepted) × (filling .writes + 2 * (p .reading .series * p .reading .slots) ≤ 2 ^ 63) ⌝ }
-    ensures { λ r. ⌜ filledIn (now (image .exit)) p r ≡ fill (jobOf (now (image .entry)) p) (filledIn (now (image .entry)) p filling) (windows (jobOf (now (image .entry)) p)) (p .reading .series) ⌝ }
-    ensures { λ r. ⌜ Keeps (now (image .entry)) (now (image .exit)) p × (r .writes ≤ filling .writes + p .reading .series * p .reading .slots) ⌝ }
+    ensures { λ r. ⌜ filledIn (now (image .exit)) p (r .filling) ≡ fill (jobOf (now (image .entry)) p) (filledIn (now (image .entry)) p filling) (windows (jobOf (now (image .entry)) p)) (p .reading .series) ⌝ }
+    ensures { λ r. ⌜ Keeps (now (image .entry)) (now (image .exit)) p × (r .filling .writes ≤ filling .writes + p .reading .series * p .reading .slots) ⌝ }
+    ensures { λ r. ⌜ Passes (jobOf (now (image .entry)) p) (r .strands) ⌝ }
 {
     let q = p.reading;
     let from = p.from;
     let to = p.to;
     let first = ring::first_place(&image[from..to], q.slots, q.series, q.wrapped);
-    let f = q.function;
-    let d = p.dest;
-    let end = q.end;
     let mut start = q.start;
     let mut done = filling;
-    while start < end {
-        let rest = window::Reading {
-            slots: q.slots,
-            series: q.series,
-            wrapped: q.wrapped,
-            function: f,
-            long: q.long,
-            start: start,
-            end: end,
-        };
-        let k = span::next_strand(&image[from..to], rest, first);
-        let reading = window::Reading {
-            slots: q.slots,
-            series: q.series,
-            wrapped: q.wrapped,
-            function: f,
-            long: q.long,
-            start: start,
-            end: k.end,
-        };
-        let part = fill::Pair {
-            from: from,
-            to: to,
-            reading: reading,
-            dest: d,
-        };
+    let mut strands: u64 = 0;
+    while start < q.end {
+        let k = span::next_strand(&image[from..to], q, start, first);
+        let part = part_of(p, start, k.end);
         let place = k.place;
         done = fill_runs(image, part, done, place);
+        strands = strands + 1;
         let outcome = done.outcome;
         let model::Outcome::Accepted = outcome else {
-            return done;
+            return Passed {
+                filling: done,
+                strands: strands,
+            };
         };
         start = k.end;
     }
-    done
+    Passed {
+        filling: done,
+        strands: strands,
+    }
 }

@@ -80,7 +80,8 @@ fn fill_pair(image: &mut [u8], u: Progress, row: usize, f: model::ConsolidationF
         writes: 0,
         outcome: model::Outcome::Accepted,
     };
-    let done = inorder::fill_pair(image, p, filling);
+    let passed = inorder::fill_pair(image, p, filling);
+    let done = passed.filling;
     let after = lent::with_flag(flags, row + 1, done.wrapped);
     let outcome = done.outcome;
     move_mark(image, row, stamp, done.writes, outcome);

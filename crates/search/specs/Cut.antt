@@ -1,21 +1,18 @@
 -- A range cut in two at the start of a window: the windows of the whole are those of the first part, then those of the second; and each window's answer is that
 -- of its part. So a pair may be filled part by part. Assumes nothing.
-use Prim.Native.Nat.{ℕ, zero, suc, _+_, _*_, _/_, _≤_, _<_}
+use Prim.Native.Nat.{ℕ, zero, suc, _+_, _≤_, _<_}
 use native.Mathlib.Omega.{arith}
 use native.Mathlib.Decide.{decLt}
 use mathlib.Core.Path.{_≡_, refl, sym, ap, _∙_, subst}
-use mathlib.Core.Logic.{_≢_, _⊎_, inl, inr}
+use mathlib.Core.Logic.{_⊎_, inl, inr}
 use mathlib.Core.Bool.{Bool, true, false, _&&_, cond}
 use mathlib.Core.List.{List, [], _∷_, _++_}
 use lib.ListN.{length}
 use lib.Dec.{leb, ltb}
 use Rattle.model.specs.declared.End.{End}
 use Rattle.model.specs.declared.End.the-variants.{At, Missing}
-use Rattle.model.specs.declared.Held.{Held}
-use Rattle.model.specs.declared.Held.the-variants.{Outside}
-use Rattle.model.specs.declared.WindowAnswer.{WindowAnswer}
 use Rattle.model.specs.Ring.{stamp, cell, slots, order}
-use Rattle.model.specs.Window.{Job, windowOf, held, heldIn, seen, finites, answerOf, windowAnswer}
+use Rattle.model.specs.Window.{Job, windowOf, held, heldIn, windowAnswer}
 use Rattle.model.specs.Consolidate.{Filled, lower, lowerIf, isNext, leastFrom, nextWindow, windowsFrom, windows, writeAnswer, unlessRefused, fillWindow, fill}
 use Rattle.laws.specs.Tests.{yes-le, yes-lt, no-le, no-lt}
 use Rattle.window.specs.Starts.{window-le, window-mono}

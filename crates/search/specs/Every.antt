@@ -3,7 +3,7 @@
 use Prim.Native.Nat.{ℕ, zero, suc, _+_, _≤_, _<_}
 use native.Mathlib.Omega.{arith}
 use native.Mathlib.Decide.{decLt}
-use mathlib.Core.Path.{_≡_, refl, sym, ap, _∙_, subst}
+use mathlib.Core.Path.{_≡_, refl, sym, _∙_, subst}
 use mathlib.Core.Logic.{_⊎_, inl, inr}
 use mathlib.Core.Bool.{Bool, true, false, _&&_, cond, false≢true}
 use mathlib.Core.List.{List, [], _∷_}
@@ -14,7 +14,7 @@ use Rattle.model.specs.declared.End.the-variants.{At, Missing}
 use Rattle.model.specs.Ring.{stamp, slots, order}
 use Rattle.model.specs.Window.{Job, windowOf}
 use Rattle.model.specs.Consolidate.{lower, lowerIf, isNext, leastFrom, nextWindow, windowsFrom, windows}
-use Rattle.laws.specs.Tests.{yes-le, yes-lt, no-le, no-lt, le-is, lt-is, and-left, and-right}
+use Rattle.laws.specs.Tests.{yes-le, yes-lt, no-le, le-is, lt-is, and-left, and-right}
 use Rattle.search.specs.Found.{found}
 
 -- x is one of these

@@ -255,7 +255,6 @@ module _ (q : Job) where
     pub bound : ℕ
     pub limit : ℕ
     pub fuel : ℕ
-    pub low-edge : (t : ℕ) → t < limit → windowOf (q .long) t < bound
     pub high-edge : (t : ℕ) → limit ≤ t → bound ≤ windowOf (q .long) t
     pub head : Head limit is
     pub up : rising q 0 is ≡ true
@@ -271,7 +270,6 @@ module _ (q : Job) where
     bound = 0;
     limit = 0;
     fuel = slots (q .source .slab);
-    low-edge = none;
     high-edge = λ t h. omega arith;
     head = head-from 0 (order (q .source));
     up = r;
@@ -356,7 +354,6 @@ module _ (q : Job) where
       bound = suc here;
       limit = here + q .long;
       fuel = r .fuel - 1;
-      low-edge = low;
       high-edge = λ t h. omega (arith, z, window-next (q .long) z (stampOf i) t h);
       head = head-from (here + q .long) is;
       up = rising-from (here + q .long) is 0 up-behind;

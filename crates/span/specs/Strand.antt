@@ -1,38 +1,47 @@
 -- A strand: a part of the range whose windows never fall in reading order. It is found against the reading order: a slot whose window is above the least of
 -- those behind it ends the part before its window; one that is not is its first slot so far. Assumes nothing.
-use Prim.Native.Nat.{ℕ, zero, suc, _+_, _-_, _*_, _/_, _%_, _≤_, _<_}
+use Prim.Native.Nat.{ℕ, suc, _+_, _-_, _≤_, _<_}
 use native.Mathlib.Omega.{arith}
 use native.Mathlib.Decide.{decLt}
-use mathlib.Core.Path.{_≡_, refl, sym, ap, _∙_, subst}
+use mathlib.Core.Path.{_≡_, refl, sym, _∙_, subst}
 use mathlib.Core.Logic.{_⊎_, inl, inr}
-use mathlib.Core.Bool.{Bool, true, false, _&&_, cond, false≢true}
+use mathlib.Core.Bool.{Bool, true, false, false≢true}
 use mathlib.Core.List.{List, [], _∷_}
 use lib.ListN.{length}
-use lib.Dec.{leb, ltb}
 use Rattle.model.specs.declared.Place.{Place}
 use Rattle.model.specs.Ring.{stamp, walk}
 use Rattle.model.specs.Window.{Job, windowOf}
-use Rattle.laws.specs.Tests.{yes-le, yes-lt, no-le, no-lt}
+use Rattle.laws.specs.Tests.{yes-le}
 use Rattle.window.specs.Starts.{window-le, window-mono, window-low, window-next, window-span}
 use Rattle.window.proofs.Laws.{window-again}
 use Rattle.search.specs.Cut.{upto}
+use Rattle.strand_theory.specs.Cuts.{In, Cut}
 use Rattle.span.specs.declared.Strand.{Strand}
 use Rattle.span.specs.Parts.{inRange, isFrom, from, rising}
 use Rattle.span.specs.Rest.{inside-is, inside-yes, rising-in, rising-out, rise-in, rise-out, rising-less, from-stop, from-pass}
 
--- what was met, of these slots: the part up to `end` has windows that never fall, none below `low`, and its first slot is at the place p
+-- the window `low` is that of one of these slots, in the range
+pub record Least (q : Job) (is : List ℕ) (low : ℕ) : Type 0 where
+  pub slot : ℕ
+  pub among : In slot is
+  pub begun : q .start ≤ stamp (q .source .slab) slot
+  pub low-is : windowOf (q .long) (stamp (q .source .slab) slot) ≡ low
+
+-- the first of these slots has a stamp below x
 abbrev Below : Job → ℕ → List ℕ → Type 0
 Below q x [] = Unit {0}
 Below q x (i ∷ is) = stamp (q .source .slab) i < x
 
+-- what was met, of these slots: the part up to `end` has windows that never fall, none below `low`, and its first slot is at the place p; the end is the
+-- range's, or a window from which the windows fall
 pub record Edged (q : Job) (n : ℕ) (is : List ℕ) (end low : ℕ) (p : Place) : Type 0 where
   pub slot-in : p .slot < n
   pub few : p .left ≤ length is
   pub here : walk n (p .slot) (p .left) ≡ from (upto q end) 0 is
   pub up : rising (upto q end) low is ≡ true
   pub head : Below q (low + q .long) (from (upto q end) 0 is)
-  pub low-is : ((windowOf (q .long) low ≡ low) × (q .start < low + q .long)) ⊎ (end ≤ low)
-  pub end-is : (end ≡ q .end) ⊎ ((windowOf (q .long) end ≡ end) × (q .start < end) × (end ≤ q .end))
+  pub low-is : Least q is low ⊎ (end ≤ low)
+  pub end-is : (end ≡ q .end) ⊎ Cut q is (q .start) end
 
 -- one stamp more, by cases
 pub record Meets (start long end low : ℕ) (p : Place) (t : ℕ) (here : Place) (end' low' : ℕ) (p' : Place) : Type 0 where
@@ -47,7 +56,7 @@ pub record Stranded (q : Job) (n : ℕ) (p : Place) (r : Strand) : Type 0 where
   pub fewer : r .place .left ≤ p .left
   pub rest-is : walk n (r .place .slot) (r .place .left) ≡ from (upto q (r .end)) 0 (walk n (p .slot) (p .left))
   pub up : rising (upto q (r .end)) 0 (walk n (p .slot) (p .left)) ≡ true
-  pub end-is : (r .end ≡ q .end) ⊎ ((windowOf (q .long) (r .end) ≡ r .end) × (q .start < r .end) × (r .end ≤ q .end))
+  pub end-is : (r .end ≡ q .end) ⊎ Cut q (walk n (p .slot) (p .left)) (q .start) (r .end)
 
 module _ (q : Job) (z : 0 < q .long) where
   abbrev stampOf : ℕ → ℕ
@@ -55,6 +64,44 @@ module _ (q : Job) (z : 0 < q .long) where
 
   abbrev win : ℕ → ℕ
   win t = windowOf (q .long) t
+
+  -- ---- the edges of a part
+
+  -- where a reading is cut a window starts, behind the range's start and not behind its end
+  pub cut-edge : {is : List ℕ} {e : ℕ} → Cut q is (q .start) e → (win e ≡ e) × (q .start < e) × (e ≤ q .end)
+  cut-edge {is} {e} c = (
+    starts,
+    go (decLt (stampOf (c .low)) e),
+    omega (arith, c .high-is, c .high-below, window-le (q .long) (stampOf (c .high))),
+  )
+    where
+      starts : win e ≡ e
+      starts = subst (λ (x : ℕ). win x ≡ x) (c .high-is) (window-again (q .long) z (stampOf (c .high)))
+
+      go : Dec (stampOf (c .low) < e) → q .start < e
+      go (yes h) = omega (arith, c .low-from)
+      go (no h) = absurd (omega (arith, starts, c .low-under, window-mono (q .long) z {t = e} {u = stampOf (c .low)} (omega arith)))
+
+  short : {is : List ℕ} {e : ℕ} → (e ≡ q .end) ⊎ Cut q is (q .start) e → e ≤ q .end
+  short (inl x) = omega arith
+  short (inr x) = cut-edge x .2
+
+  -- one slot more, before these
+  more-least : {is : List ℕ} {low e : ℕ} (i : ℕ) → Least q is low ⊎ (e ≤ low) → Least q (i ∷ is) low ⊎ (e ≤ low)
+  more-least i (inl l) = inl (record { slot = l .slot; among = inr (l .among); begun = l .begun; low-is = l .low-is })
+  more-least i (inr h) = inr h
+
+  more-cut : {is : List ℕ} {e : ℕ} (i : ℕ) → (e ≡ q .end) ⊎ Cut q is (q .start) e → (e ≡ q .end) ⊎ Cut q (i ∷ is) (q .start) e
+  more-cut i (inl h) = inl h
+  more-cut i (inr c) = inr (record {
+    high = c .high;
+    low = c .low;
+    before = inr (c .before);
+    high-is = c .high-is;
+    high-below = c .high-below;
+    low-from = c .low-from;
+    low-under = c .low-under;
+  })
 
   from-zero : (e t : ℕ) (x : Bool) → inRange (q .start) e t ≡ x → isFrom (q .start) e 0 t ≡ x
   unfolding isFrom
@@ -108,6 +155,19 @@ module _ (q : Job) (z : 0 < q .long) where
       go false f = f
       go true f = absurd (omega (arith, inside-is (upto q e) f .1))
 
+  -- a stamp from the least window on is in it, or in a later one
+  same-window : {is : List ℕ} {low t : ℕ} → Least q is low → low ≤ t → t < low + q .long → win t ≡ low
+  same-window {is} {low} {t} c h k =
+      let u = stampOf (c .slot) in
+      let b : t < win u + q .long = omega (arith, c .low-is) in
+      omega (arith, c .low-is, window-again (q .long) z u, window-mono (q .long) z {t = win u} {u = t} (omega (arith, c .low-is)), window-low (q .long) z u t b)
+
+  later-window : {is : List ℕ} {low t : ℕ} → Least q is low → low + q .long ≤ t → low + q .long ≤ win t
+  later-window {is} {low} {t} c h =
+      let u = stampOf (c .slot) in
+      let b : win u + q .long ≤ t = omega (arith, c .low-is) in
+      omega (arith, c .low-is, window-next (q .long) z u t b)
+
   below-more : (x y : ℕ) → x ≤ y → (is : List ℕ) → Below q x is → Below q y is
   below-more x y h [] b = tt
   below-more x y h (i ∷ is) b = omega (arith, b)
@@ -115,10 +175,11 @@ module _ (q : Job) (z : 0 < q .long) where
   pub turn : {n i : ℕ} {is : List ℕ} {end low end' low' : ℕ} {p p' here : Place} → Edged q n is end low p
       → Meets (q .start) (q .long) end low p (stampOf i) here end' low' p' → here .slot < n → here .left ≤ suc (length is)
       → walk n (here .slot) (here .left) ≡ i ∷ is → Edged q n (i ∷ is) end' low' p'
-  turn {n} {i} {is} {end} {low} {end'} {low'} {p} {p'} {here} g m hs hl hw = go (inRange (q .start) end (stampOf i)) refl (decLt (stampOf i) low) (decLt (stampOf i) (low + q .long)) (g .low-is)
+  turn {n} {i} {is} {end} {low} {end'} {low'} {p} {p'} {here} g m hs hl hw =
+      go (inRange (q .start) end (stampOf i)) refl (decLt (stampOf i) low) (decLt (stampOf i) (low + q .long)) (g .low-is)
     where
-      go : (x : Bool) → inRange (q .start) end (stampOf i) ≡ x → Dec (stampOf i < low) → Dec (stampOf i < low + q .long)
-          → ((windowOf (q .long) low ≡ low) × (q .start < low + q .long)) ⊎ (end ≤ low) → Edged q n (i ∷ is) end' low' p'
+      go : (x : Bool) → inRange (q .start) end (stampOf i) ≡ x → Dec (stampOf i < low) → Dec (stampOf i < low + q .long) → Least q is low ⊎ (end ≤ low)
+          → Edged q n (i ∷ is) end' low' p'
       go false e a b c =
           let k = m .outside e in
           let u = from-pass (upto q end) 0 i is (from-zero end (stampOf i) false e) in
@@ -128,59 +189,63 @@ module _ (q : Job) (z : 0 < q .long) where
             here = g .here ∙ sym u;
             up = rise-out (upto q end) low i is e (g .up);
             head = subst (Below q (low + q .long)) (sym u) (g .head);
-            low-is = g .low-is;
-            end-is = g .end-is;
+            low-is = more-least i (g .low-is);
+            end-is = more-cut i (g .end-is);
           })
       go true e (yes a) b c =
           let k = m .lower e a in
+          let w = win (stampOf i) in
           let u = from-stop (upto q end) 0 i is (from-zero end (stampOf i) true e) in
-          let j = inside-is (upto q end) e in
           rw (k .0, k .1, k .2) (record {
             slot-in = hs;
             few = hl;
             here = hw ∙ sym u;
-            up = rise-in (upto q end) (win (stampOf i)) i is e (omega arith) (rising-less (upto q end) is (win (stampOf i)) low (omega (arith, window-le (q .long) (stampOf i))) (g .up));
-            head = subst (Below q (win (stampOf i) + q .long)) (sym u) (window-span (q .long) z (stampOf i));
-            low-is = inl (window-again (q .long) z (stampOf i), omega (arith, j .0, window-span (q .long) z (stampOf i)));
-            end-is = g .end-is;
+            up = rise-in (upto q end) w i is e (omega arith) (rising-less (upto q end) is w low (omega (arith, window-le (q .long) (stampOf i))) (g .up));
+            head = subst (Below q (w + q .long)) (sym u) (window-span (q .long) z (stampOf i));
+            low-is = inl (record { slot = i; among = inl refl; begun = inside-is (upto q end) e .0; low-is = refl });
+            end-is = more-cut i (g .end-is);
           })
-      go true e (no a) (yes b) (inr c) = absurd (omega (arith, inside-is (upto q end) e .1))
+      go true e (no a) b (inr c) = absurd (omega (arith, inside-is (upto q end) e .1))
       go true e (no a) (yes b) (inl c) =
           let k = m .same e (omega arith) b in
           let u = from-stop (upto q end) 0 i is (from-zero end (stampOf i) true e) in
-          let v : win (stampOf i) ≡ low = omega (arith, c .0, window-mono (q .long) z {t = low} {u = stampOf i} (omega arith), window-low (q .long) z low (stampOf i) (omega (arith, c .0))) in
+          let v : win (stampOf i) ≡ low = same-window c (omega arith) b in
           rw (k .0, k .1, k .2) (record {
             slot-in = hs;
             few = hl;
             here = hw ∙ sym u;
             up = rise-in (upto q end) low i is e (omega (arith, v)) (subst (λ (x : ℕ). rising (upto q end) x is ≡ true) (sym v) (g .up));
             head = subst (Below q (low + q .long)) (sym u) b;
-            low-is = inl c;
-            end-is = g .end-is;
+            low-is = more-least i (inl c);
+            end-is = more-cut i (g .end-is);
           })
-      go true e (no a) (no b) (inr c) = absurd (omega (arith, inside-is (upto q end) e .1))
       go true e (no a) (no b) (inl c) =
           let k = m .above e (omega arith) in
+          let w = win (stampOf i) in
           let j = inside-is (upto q end) e in
-          let far : low + q .long ≤ win (stampOf i) = omega (arith, c .0, window-next (q .long) z low (stampOf i) (omega (arith, c .0))) in
-          let le : win (stampOf i) ≤ end = omega (arith, j .1, window-le (q .long) (stampOf i)) in
-          let off = not-before (win (stampOf i)) (stampOf i) (window-le (q .long) (stampOf i)) in
-          let u : from (upto q (win (stampOf i))) 0 (i ∷ is) ≡ from (upto q end) 0 is =
-          from-pass (upto q (win (stampOf i))) 0 i is (from-zero (win (stampOf i)) (stampOf i) false off)
-          ∙ from-shorter end (win (stampOf i)) le is (below-more (low + q .long) (win (stampOf i)) far (from (upto q end) 0 is) (g .head)) in
+          let far : low + q .long ≤ w = later-window c (omega arith) in
+          let le : w ≤ end = omega (arith, j .1, window-le (q .long) (stampOf i)) in
+          let off = not-before w (stampOf i) (window-le (q .long) (stampOf i)) in
+          let u : from (upto q w) 0 (i ∷ is) ≡ from (upto q end) 0 is =
+          from-pass (upto q w) 0 i is (from-zero w (stampOf i) false off)
+          ∙ from-shorter end w le is (below-more (low + q .long) w far (from (upto q end) 0 is) (g .head)) in
           rw (k .0, k .1, k .2) (record {
             slot-in = g .slot-in;
             few = omega (arith, g .few);
             here = g .here ∙ sym u;
-            up = rise-out (upto q (win (stampOf i))) low i is off (rising-shorter end (win (stampOf i)) le is low (g .up));
+            up = rise-out (upto q w) low i is off (rising-shorter end w le is low (g .up));
             head = subst (Below q (low + q .long)) (sym u) (g .head);
-            low-is = inl c;
-            end-is = inr (window-again (q .long) z (stampOf i), omega (arith, c .1, far), omega (arith, le, short (g .end-is)));
+            low-is = more-least i (inl c);
+            end-is = inr (record {
+              high = i;
+              low = c .slot;
+              before = inl (refl, c .among);
+              high-is = refl;
+              high-below = omega (arith, j .1, short (g .end-is));
+              low-from = c .begun;
+              low-under = omega (arith, c .low-is, far, z);
+            });
           })
-        where
-          short : (end ≡ q .end) ⊎ ((windowOf (q .long) end ≡ end) × (q .start < end) × (end ≤ q .end)) → end ≤ q .end
-          short (inl x) = omega arith
-          short (inr x) = x .2
 
 -- nothing was met
 pub none-met : (q : Job) (n : ℕ) (p : Place) → p .slot < n → p .left ≡ 0 → Edged q n [] (q .end) (q .end) p
@@ -202,5 +267,5 @@ all-met q n p {end} {low} {r} g e l = record {
   fewer = omega (arith, g .few, l);
   rest-is = subst (λ (x : ℕ). walk n (r .place .slot) (r .place .left) ≡ from (upto q x) 0 (walk n (p .slot) (p .left))) e (g .here);
   up = subst (λ (x : ℕ). rising (upto q x) 0 (walk n (p .slot) (p .left)) ≡ true) e (rising-less (upto q end) (walk n (p .slot) (p .left)) 0 low (omega arith) (g .up));
-  end-is = subst (λ (x : ℕ). (x ≡ q .end) ⊎ ((windowOf (q .long) x ≡ x) × (q .start < x) × (x ≤ q .end))) e (g .end-is);
+  end-is = subst (λ (x : ℕ). (x ≡ q .end) ⊎ Cut q (walk n (p .slot) (p .left)) (q .start) x) e (g .end-is);
 }

@@ -5,6 +5,7 @@ ghost use Prim.Native.Nat.{suc, _+_, _%_, _<_, _≤_};
 ghost use Rattle.window.specs.Parts.{Readable, jobIn};
 ghost use Rattle.rings.specs.Walk.{steps};
 ghost use Rattle.span.specs.Parts.{inRange, isFrom, Skipped, Ran};
+ghost use Rattle.search.specs.Cut.{onward};
 ghost use Rattle.span.specs.Strand.{Meets, Stranded};
 
 // A window, the slots that have it, and the place behind them.
@@ -131,29 +132,29 @@ fn slot_behind(n: usize, place: model::Place) -> usize
 }
 
 // One slot more, before those that were met. A window above the least of those behind it falls out of the part, and the end comes down to it.
-fn meet(q: window::Reading, e: Edge, stamp: u64, here: model::Place) -> Edge
-    requires { ⌜ 0 < q .long ⌝ }
-    ensures { λ r. ⌜ Meets (q .start) (q .long) (e .end) (e .low) (e .place) stamp here (r .end) (r .low) (r .place) ⌝ }
+fn meet(start: u64, long: u64, e: Edge, stamp: u64, here: model::Place) -> Edge
+    requires { ⌜ 0 < long ⌝ }
+    ensures { λ r. ⌜ Meets start long (e .end) (e .low) (e .place) stamp here (r .end) (r .low) (r .place) ⌝ }
 {
     let end = e.end;
     let low = e.low;
     let place = e.place;
-    if stamp < q.start {
+    if stamp < start {
         return e;
     }
     if stamp >= end {
         return e;
     }
     if stamp < low {
-        let w = window::window_of(q.long, stamp);
+        let w = window::window_of(long, stamp);
         return Edge {
             end: end,
             low: w,
             place: here,
         };
     }
-    if q.long <= stamp - low {
-        let w = window::window_of(q.long, stamp);
+    if long <= stamp - low {
+        let w = window::window_of(long, stamp);
         return Edge {
             end: w,
             low: low,
@@ -167,11 +168,11 @@ fn meet(q: window::Reading, e: Edge, stamp: u64, here: model::Place) -> Edge
     }
 }
 
-// The greatest such part, in one pass against the reading order.
-pub fn next_strand(slab: &[u8], q: window::Reading, first: model::Place) -> Strand
+// The greatest such part of the range from `start` on, in one pass against the reading order.
+pub fn next_strand(slab: &[u8], q: window::Reading, start: u64, first: model::Place) -> Strand
     requires { ⌜ Readable (now slab) q ⌝ }
     requires { ⌜ (first .slot < q .slots) × (first .left ≤ q .slots) ⌝ }
-    ensures { λ r. ⌜ Stranded (jobIn (now (slab .entry)) q) (q .slots) first r ⌝ }
+    ensures { λ r. ⌜ Stranded (onward (jobIn (now (slab .entry)) q) start) (q .slots) first r ⌝ }
 {
     let mut slot = slot_behind(q.slots, first);
     let none = model::Place {
@@ -192,7 +193,7 @@ pub fn next_strand(slab: &[u8], q: window::Reading, first: model::Place) -> Stra
             slot: slot,
             left: met,
         };
-        e = meet(q, e, t, here);
+        e = meet(start, q.long, e, t, here);
     }
     let place = e.place;
     Strand {

@@ -31,6 +31,13 @@ pub data Cuts (q : Job) : ℕ → ℕ → Type 0 where
   none : Cuts q 0 (q .start)
   more : {k b e : ℕ} → Cuts q k b → Cut q (order (q .source)) b e → Cuts q (suc k) e
 
+-- n passes over the source: no more than one, and one for each of some cuts
+pub record Passes (q : Job) (n : ℕ) : Type 0 where
+  pub cuts : ℕ
+  pub last : ℕ
+  pub cut : Cuts q cuts last
+  pub few : n ≤ suc cuts
+
 -- every stamp stands in its own slot: so it is in every ring that this library wrote
 abbrev pub Homed : List ℕ → Type 0
 Homed s = (i : ℕ) → i < slots s → stamp s i ≢ 0 → slotOf s (stamp s i) ≡ i

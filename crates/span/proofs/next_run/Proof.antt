@@ -1,5 +1,5 @@
 -- `span::next_run` meets its contract: the first slot, and those that are passed over behind it, are the run. Assumes nothing.
-use Prim.Native.Nat.{suc, _+_, _-_, _%_}
+use Prim.Native.Nat.{_+_, _-_}
 use mathlib.Core.Path.{ap, _∙_}
 use native.Mathlib.Omega.{arith}
 use Rattle.model.specs.Ring.{walk}
