@@ -36,6 +36,9 @@ pub trait Side {
     /// From here on a query's points are read one a call, where there is another way.
     fn step_readers(&mut self) {}
     fn query_auto(&mut self, column: u32, start: u64, end: u64) -> (u64, f64);
+    /// A query's answer alone: no point is read.
+    fn ask(&mut self, column: u32, tier: u32, start: u64, end: u64);
+    fn ask_auto(&mut self, column: u32, start: u64, end: u64);
     fn consolidate(&mut self) -> u64;
     /// Sets the mark of the pair of tiers 0 and 1, as if a run had ended there.
     fn set_mark(&mut self, mark: u64);

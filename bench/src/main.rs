@@ -76,6 +76,12 @@ fn three_hours(side: &mut dyn Side) {
     seconds(side, 0, 10_800);
 }
 
+/// 1,000 seconds from slot 1,240 on: the slots before them are empty, and no ring has wrapped.
+fn late(side: &mut dyn Side) {
+    side.entries(2);
+    seconds(side, 4840, 1000);
+}
+
 /// Every ring of `three` full and wrapped: a second in each 61 minutes, so that every minute and hour comes up in 61 days,
 /// then more seconds than their ring has slots.
 fn all_wrapped(side: &mut dyn Side) {
@@ -184,6 +190,9 @@ fn measures() -> Vec<Measure> {
         let t = at(3600 + 60 * (i % 119));
         assert_eq!(side.query_auto(1, t, t + 60 * SECOND).0, 60);
     };
+    let ask = |side: &mut dyn Side, i: u64| side.ask((i % 2) as u32, 0, at(3700 + i % 60), at(3800));
+    let ask_auto = |side: &mut dyn Side, i: u64| side.ask_auto((i % 2) as u32, at(4900 + i % 60), at(5000));
+    let alone = |name, turns, plan, fill: Step, turn: Turn| Measure { setup: fill, ..base(name, turns, 2000, plan, turn) };
     let idle_run = |side: &mut dyn Side, _: u64| {
         black_box(side.consolidate());
     };
@@ -225,6 +234,10 @@ fn measures() -> Vec<Measure> {
         },
         query("query, one point of 7,200", 2000, Box::new(point)),
         query("query_auto, 60 points", 2000, Box::new(auto)),
+        alone("query alone, 3 rows", 200_000, three(2), Box::new(three_hours), Box::new(ask)),
+        alone("query alone, 32 rows", 200_000, rings(8, 4), Box::new(three_hours), Box::new(ask)),
+        alone("query_auto alone, 3 rows", 200_000, three(2), Box::new(three_hours), Box::new(ask_auto)),
+        alone("query_auto alone, 1,240 empty slots first", 20_000, three(2), Box::new(late), Box::new(ask_auto)),
         run("run after each second", 60, 2, 7200, 1),
         run("run after a minute (1 new window)", 20, 2, 7200, 60),
         run("run after ten minutes (10)", 10, 2, 7200, 600),

@@ -70,7 +70,7 @@ fn answer_of(outcome: model::Outcome, count: u64) -> model::Consolidated
 pub fn consolidate(image: &mut [u8], flags: model::Flags) -> Consolidation
     ensures { λ r. ⌜ doneOf (now (image .exit)) r ≡ call (lentOf (now (image .entry)) flags) consolidateCall ⌝ }
 {
-    let opened = image::check_image(image);
+    let opened = checked::check_image(image);
     let model::Outcome::Accepted = opened else {
         let answer = answer_of(opened, 0);
         return Consolidation {

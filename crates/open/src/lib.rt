@@ -106,7 +106,7 @@ fn flags_of(s: &[u8], n: usize, wrapped: [bool; 32]) -> model::Flags
 pub fn open(image: &[u8], flags: model::Flags) -> Opened
     ensures { λ r. ⌜ (outcomeNo (r .outcome) ≡ openCheck (now (image .entry))) × (lent (now (image .entry)) (r .flags) ≡ opening (lent (now (image .entry)) flags)) ⌝ }
 {
-    let checked = image::check_image(image);
+    let checked = checked::check_image(image);
     let model::Outcome::Accepted = checked else {
         return Opened {
             outcome: checked,

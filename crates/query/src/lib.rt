@@ -70,7 +70,7 @@ pub fn query(
 ) -> model::Queried
     ensures { λ r. ⌜ repliedBy (now (image .entry)) r ≡ query (lentOf (now (image .entry)) flags) (handle .schema) (handle .column) tier start end ⌝ }
 {
-    let opened = image::check_image(image);
+    let opened = checked::check_image(image);
     if let model::Outcome::Refused(why) = opened {
         return model::Queried::Refused(why);
     }
@@ -87,7 +87,7 @@ pub fn query_auto(
 ) -> model::Queried
     ensures { λ r. ⌜ repliedBy (now (image .entry)) r ≡ queryAuto (lentOf (now (image .entry)) flags) (handle .schema) (handle .column) start end ⌝ }
 {
-    let opened = image::check_image(image);
+    let opened = checked::check_image(image);
     if let model::Outcome::Refused(why) = opened {
         return model::Queried::Refused(why);
     }
