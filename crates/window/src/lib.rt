@@ -2,7 +2,8 @@
 // number, or NaN because nothing finite remained. The caller says which slots: the whole reading order, or a run of it that has all of the window.
 // `gather_values` alone says what the pass finds, so that another way to find it changes nothing else.
 ghost use mathlib.Core.Path.{_≡_};
-ghost use Prim.Native.Nat.{_<_, _≤_};
+ghost use Prim.Native.Nat.{_/_, _%_, _^_, _<_, _≤_};
+ghost use lib.Dec.{eqb};
 ghost use Rattle.model.specs.Ring.{stamp, cell, walk};
 ghost use Rattle.model.specs.Window.{windowOf, heldValue, held, heldIn};
 ghost use Rattle.window.specs.Parts.{Readable, Asked, jobIn, gather, along, Fine};
@@ -34,20 +35,27 @@ pub fn window_of(long: u64, stamp: u64) -> u64
     stamp / long * long
 }
 
-// What a value's pattern stands for.
+// The eleven exponent bits are all ones: the value is infinite, or none at all.
+fn is_special(v: u64) -> bool
+    ensures { λ r. ⌜ r ≡ eqb (v / 2 ^ 52 % 2 ^ 11) 2047 ⌝ }
+{
+    ((v >> 52) & 0x7ff) == 0x7ff
+}
+
+// What a value's pattern stands for: most are finite, so that is asked first.
 fn held_value(v: u64) -> model::Held
     ensures { λ r. ⌜ r ≡ heldValue v ⌝ }
 {
+    let special = is_special(v);
+    if !special {
+        let x = f64::from_bits(v);
+        return model::Held::Finite(x);
+    }
     let nan = field::is_nan(v);
     if nan {
         return model::Held::Outside;
     }
-    let infinite = field::is_infinite(v);
-    if infinite {
-        return model::Held::Infinite;
-    }
-    let x = f64::from_bits(v);
-    model::Held::Finite(x)
+    model::Held::Infinite
 }
 
 // What a slot holds for a window.
