@@ -46,10 +46,14 @@ module _ (s : List ℕ) (q : Reading) (h : Readable s q) where
       slot-in = k .run-in;
       few-left = omega (arith, k .run-few);
       starts = rw (k .window-is) (window-again (q .long) (h .some-long) (stamp s slot));
-      same = λ c. rw (k .window-is)
-          (run-same job (h .some-long) by-first (walk (q .slots) (x .run .slot) (x .run .left))
-          (sym (walk-first (q .slots) slot left z) ∙ k .split ∙ ap (λ (l : List ℕ). walk (q .slots) (x .run .slot) (x .run .left) ++ l) rest-from) c);
+      same = λ c. rw (k .window-is) (run-same job (h .some-long) by-first run (k .parted .gap) (k .parted .none-in) split c);
     }
+      where
+        run : List ℕ
+        run = walk (q .slots) (x .run .slot) (x .run .left)
+
+        split : slot ∷ behind ≡ run ++ (k .parted .gap ++ from job (windowOf (q .long) (stamp s slot) + q .long) behind)
+        split = sym (walk-first (q .slots) slot left z) ∙ k .parted .split ∙ ap (λ (l : List ℕ). run ++ (k .parted .gap ++ l)) rest-from
 
     pub run-turn : {g : Filled} → g ≡ fillWindow job f (x .window) 0 m → Rest job m total g (walk (q .slots) (x .rest .slot) (x .rest .left))
     run-turn {g} e = rw rest-from (run-done job (h .some-long) by-first (e ∙ ap (λ (w : ℕ). fillWindow job f w 0 m) (k .window-is)))

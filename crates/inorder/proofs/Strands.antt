@@ -6,7 +6,7 @@ use native.Mathlib.Numerals.{add-one}
 use mathlib.Core.Path.{_≡_, sym, ap, _∙_, subst}
 use mathlib.Core.Logic.{_⊎_, inl, inr, _≢_}
 use mathlib.Core.Bool.{true}
-use mathlib.Core.List.{List}
+use mathlib.Core.List.{List, _++_}
 use lib.ListN.{length}
 use Rattle.model.specs.declared.Place.{Place}
 use Rattle.model.specs.Ring.{walk, order, slots}
@@ -19,7 +19,7 @@ use Rattle.search.specs.Cut.{upto, onward, cut-fill}
 use Rattle.span.specs.declared.Strand.{Strand}
 use Rattle.span.specs.Parts.{from, rising}
 use Rattle.span.specs.Strand.{Stranded, cut-edge}
-use Rattle.span.specs.Rest.{Rest, begin, empty-range, rising-from}
+use Rattle.span.specs.Rest.{Rest, begin, without, empty-range, rising-from}
 use Rattle.answers.specs.declared.Filling.{Filling}
 use Rattle.fill.specs.declared.Pair.{Pair}
 use Rattle.fill.specs.Parts.{Lies, Keeps, Whole, sourceIn, jobOf, filledIn}
@@ -49,9 +49,10 @@ module _ (q : Job) (z : 0 < q .long) (n : ℕ) {p : Place} {k : Strand} (s : Str
       → Rest (upto q (k .end)) m (fill (upto q (k .end)) f (windows (upto q (k .end))) m) f (walk n (k .place .slot) (k .place .left))
   strand-rest m f =
       let u = upto q (k .end) in
-      let a : walk n (k .place .slot) (k .place .left) ≡ from u 0 (order (q .source)) = s .rest-is ∙ ap (from u 0) o in
+      let slots = walk n (k .place .slot) (k .place .left) in
+      let a : from u 0 (order (q .source)) ≡ slots ++ s .tail = ap (from u 0) (sym o) ∙ s .rest-is in
       let b : rising u 0 (order (q .source)) ≡ true = subst (λ (is : List ℕ). rising u 0 is ≡ true) o (s .up) in
-      rw a (begin u m f l (rising-from u 0 (order (q .source)) 0 b))
+      without u slots (s .tail) (s .none-in) (rw a at (begin u m f l (rising-from u 0 (order (q .source)) 0 b)))
 
 -- ---- how many strands
 

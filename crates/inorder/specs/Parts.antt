@@ -1,6 +1,13 @@
--- A pair whose range is a part. Assumes nothing.
+-- The words of the contracts: what all windows of a pair make of a filling; a pair whose range is a part. Assumes nothing.
 use Prim.Native.Nat.{ℕ}
+use mathlib.Core.List.{List}
+use Rattle.model.specs.Consolidate.{Filled, fill, windows}
+use Rattle.answers.specs.declared.Filling.{Filling}
 use Rattle.fill.specs.declared.Pair.{Pair}
+use Rattle.fill.specs.Parts.{jobOf, filledIn}
+
+abbrev pub allFilled : List ℕ → Pair → Filling → Filled
+allFilled s p r = fill (jobOf s p) (filledIn s p r) (windows (jobOf s p)) (p .reading .series)
 
 abbrev pub inPart : Pair → ℕ → ℕ → Pair
 inPart p start end = record {

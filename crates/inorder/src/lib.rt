@@ -4,11 +4,10 @@ ghost use mathlib.Core.Path.{_≡_};
 ghost use Prim.Native.Nat.{_+_, _*_, _<_, _≤_, _^_};
 ghost use Rattle.model.specs.declared.Outcome.the-variants.{Accepted};
 ghost use Rattle.model.specs.Ring.{walk};
-ghost use Rattle.model.specs.Consolidate.{fill, windows};
 ghost use Rattle.strand_theory.specs.Cuts.{Passes};
 ghost use Rattle.fill.specs.Parts.{Lies, Keeps, jobOf, filledIn};
 ghost use Rattle.span.specs.Rest.{Rest};
-ghost use Rattle.inorder.specs.Parts.{inPart};
+ghost use Rattle.inorder.specs.Parts.{allFilled, inPart};
 
 // A pair filled, and in how many strands.
 pub struct Passed {
@@ -25,8 +24,8 @@ fn fill_runs(
 ) -> answers::Filling
     requires { ⌜ Lies (now image) p × (place .slot < p .reading .slots) × (place .left ≤ p .reading .slots) ⌝ }
     requires { ⌜ (filling .outcome ≡ Accepted) × (filling .writes + p .reading .series * p .reading .slots ≤ 2 ^ 63) ⌝ }
-    requires { ⌜ Rest (jobOf (now image) p) (p .reading .series) (fill (jobOf (now image) p) (filledIn (now image) p filling) (windows (jobOf (now image) p)) (p .reading .series)) (filledIn (now image) p filling) (walk (p .reading .slots) (place .slot) (place .left)) ⌝ }
-    ensures { λ r. ⌜ filledIn (now (image .exit)) p r ≡ fill (jobOf (now (image .entry)) p) (filledIn (now (image .entry)) p filling) (windows (jobOf (now (image .entry)) p)) (p .reading .series) ⌝ }
+    requires { ⌜ Rest (jobOf (now image) p) (p .reading .series) (allFilled (now image) p filling) (filledIn (now image) p filling) (walk (p .reading .slots) (place .slot) (place .left)) ⌝ }
+    ensures { λ r. ⌜ filledIn (now (image .exit)) p r ≡ allFilled (now (image .entry)) p filling ⌝ }
     ensures { λ r. ⌜ Keeps (now (image .entry)) (now (image .exit)) p × (r .writes ≤ filling .writes + p .reading .series * p .reading .slots) ⌝ }
 {
     let q = p.reading;
@@ -82,7 +81,7 @@ fn part_of(p: fill::Pair, start: u64, end: u64) -> fill::Pair
 pub fn fill_pair(image: &mut [u8], p: fill::Pair, filling: answers::Filling) -> Passed
     requires { ⌜ Lies (now image) p ⌝ }
     requires { ⌜ (filling .outcome ≡ Accepted) × (filling .writes + 2 * (p .reading .series * p .reading .slots) ≤ 2 ^ 63) ⌝ }
-    ensures { λ r. ⌜ filledIn (now (image .exit)) p (r .filling) ≡ fill (jobOf (now (image .entry)) p) (filledIn (now (image .entry)) p filling) (windows (jobOf (now (image .entry)) p)) (p .reading .series) ⌝ }
+    ensures { λ r. ⌜ filledIn (now (image .exit)) p (r .filling) ≡ allFilled (now (image .entry)) p filling ⌝ }
     ensures { λ r. ⌜ Keeps (now (image .entry)) (now (image .exit)) p × (r .filling .writes ≤ filling .writes + p .reading .series * p .reading .slots) ⌝ }
     ensures { λ r. ⌜ Passes (jobOf (now (image .entry)) p) (r .strands) ⌝ }
 {

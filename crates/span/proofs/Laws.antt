@@ -1,21 +1,20 @@
 -- The tests of a stamp by the code's order, and one turn of each pass. Assumes nothing.
 use Prim.Native.Nat.{ℕ, zero, suc, _+_, _-_, _%_, _≤_, _<_}
-use native.Mathlib.Nat.{mod-eq-of-lt, mod-self}
+use native.Mathlib.Nat.{mod-eq-of-lt, add-mod-right, mod-lt, suc-mod, add-zero, add-suc, sub-self}
 use native.Mathlib.Omega.{arith}
 use native.Mathlib.Decide.{decLt}
 use mathlib.Core.Path.{_≡_, refl, sym, ap, _∙_, subst}
-use mathlib.Core.Bool.{Bool, true, false, _&&_, false≢true}
-use mathlib.Core.List.{List, _∷_, _++_}
+use mathlib.Core.Bool.{Bool, true, false, _&&_, cond, false≢true}
+use mathlib.Core.List.{List, [], _∷_, _++_, append-assoc, append-nil}
 use lib.Dec.{leb}
 use Rattle.model.specs.declared.Place.{Place}
 use Rattle.model.specs.Ring.{stamp, walk}
 use Rattle.model.specs.Window.{Job, windowOf}
 use Rattle.laws.specs.Tests.{yes-le, no-le, yes-lt, no-lt}
 use Rattle.rings.specs.Numbers.{length-walk}
-use Rattle.rings.specs.Walk.{steps, walk-split}
-use Rattle.span.specs.declared.Strand.{Strand}
-use Rattle.span.specs.Parts.{inRange, isFrom, from}
-use Rattle.span.specs.Strand.{Meets, Edged, Stranded, turn, none-met, all-met}
+use Rattle.rings.specs.Walk.{steps, walk-split, walk-more}
+use Rattle.span.specs.Parts.{inRange, isFrom, from, NoneIn, Parted}
+use Rattle.span.specs.Strand.{Meets, Edged, Trimmed, turn, none-met}
 use Rattle.span.specs.Rest.{from-stop, from-pass}
 
 -- ---- a stamp from a limit on
@@ -67,76 +66,83 @@ pub step-more : (n slot₀ left₀ slot left : ℕ) {next : ℕ} → 0 < left �
 unfolding steps
 step-more n slot₀ left₀ slot left h k e g = let l : left₀ - (left - 1) ≡ suc (left₀ - left) = omega arith in rw (l, g, e)
 
--- a run and what is behind it
-pub run-split : (n slot left : ℕ) {next rest behind : ℕ} → 0 < left → next ≡ suc slot % n → behind ≤ left - 1 → rest ≡ steps n next (left - 1 - behind)
-    → walk n slot left ≡ walk n slot (left - behind) ++ walk n rest behind
-run-split n slot left {next} {rest} {behind} h g k e =
-    let a : left - 1 ≡ (left - 1 - behind) + behind = omega arith in
-    let b : left - behind - 1 ≡ left - 1 - behind = omega arith in
-    walk-first n slot left h
-    ∙ ap (λ (l : List ℕ). slot ∷ l) (ap (walk n (suc slot % n)) a ∙ walk-split n (suc slot % n) (left - 1 - behind) behind ∙ rw (e, g))
-    ∙ ap (λ (l : List ℕ). l ++ walk n rest behind) (sym (walk-first n slot (left - behind) (omega arith) ∙ ap (λ (x : ℕ). slot ∷ walk n (suc slot % n) x) b))
+-- ---- a run, the slots behind it that are not in the range, and the rest
+
+module _ (q : Job) (n : ℕ) where
+  none-more : (is : List ℕ) (i : ℕ) → NoneIn q is → inRange (q .start) (q .end) (stamp (q .source .slab) i) ≡ false → NoneIn q (is ++ i ∷ [])
+  none-more [] i o e = (e, tt)
+  none-more (j ∷ is) i o e = (o .0, none-more is i (o .1) e)
+
+  -- nothing passed over
+  pub part-begin : (slot left : ℕ) → Parted q n (walk n slot left) (record { slot = slot; left = left - left }) (record { slot = slot; left = left })
+  part-begin slot left = record { gap = []; none-in = tt; split = rw (sub-self left) (unfold walk in refl) }
+
+  -- one slot more passed over: in the range it ends the run
+  module _ (slot₀ left₀ slot left last : ℕ) {next last' t : ℕ} (h : 0 < left) (k : left ≤ left₀) (p : t ≡ stamp (q .source .slab) slot) (g : next ≡ suc slot % n)
+      (l : last' ≡ cond (inRange (q .start) (q .end) t) (left - 1) last) where
+    pub last-more : last ≤ left₀ → last' ≤ left₀
+    last-more f = go (inRange (q .start) (q .end) t) l
+      where
+        go : (x : Bool) → last' ≡ cond x (left - 1) last → last' ≤ left₀
+        go true e = omega (arith, e)
+        go false e = omega (arith, e)
+
+    pub part-more : slot ≡ steps n slot₀ (left₀ - left)
+        → Parted q n (walk n slot₀ left₀) (record { slot = slot₀; left = left₀ - last }) (record { slot = slot; left = left })
+        → Parted q n (walk n slot₀ left₀) (record { slot = slot₀; left = left₀ - last' }) (record { slot = next; left = left - 1 })
+    part-more e d = go (inRange (q .start) (q .end) t) refl l
+      where
+        go : (x : Bool) → inRange (q .start) (q .end) t ≡ x → last' ≡ cond x (left - 1) last
+            → Parted q n (walk n slot₀ left₀) (record { slot = slot₀; left = left₀ - last' }) (record { slot = next; left = left - 1 })
+        go false f c = rw c (record {
+          gap = d .gap ++ slot ∷ [];
+          none-in = none-more (d .gap) slot (d .none-in) (sym (ap (inRange (q .start) (q .end)) p) ∙ f);
+          split = d .split ∙ ap (λ (is : List ℕ). walk n slot₀ (left₀ - last) ++ is) behind;
+        })
+          where
+            behind : d .gap ++ walk n slot left ≡ (d .gap ++ slot ∷ []) ++ walk n next (left - 1)
+            behind = rw (walk-first n slot left h, g) (sym (append-assoc (d .gap) (slot ∷ []) (walk n (suc slot % n) (left - 1))))
+        go true f c = rw c (record { gap = []; none-in = tt; split = whole })
+          where
+            whole : walk n slot₀ left₀ ≡ walk n slot₀ (left₀ - (left - 1)) ++ walk n next (left - 1)
+            whole =
+                let a : left₀ ≡ (left₀ - (left - 1)) + (left - 1) = omega arith in
+                ap (walk n slot₀) a ∙ walk-split n slot₀ (left₀ - (left - 1)) (left - 1)
+                ∙ ap (λ (x : ℕ). walk n slot₀ (left₀ - (left - 1)) ++ walk n x (left - 1)) (sym (step-more n slot₀ left₀ slot left h k e g))
+
+  -- the first slot is the run's
+  pub run-first : (slot left : ℕ) {next last : ℕ} {rest : Place} → 0 < left → next ≡ suc slot % n → last ≤ left - 1
+      → Parted q n (walk n next (left - 1)) (record { slot = next; left = left - 1 - last }) rest
+      → Parted q n (walk n slot left) (record { slot = slot; left = left - last }) rest
+  run-first slot left {next} {last} {rest} h g k d = record {
+    gap = d .gap;
+    none-in = d .none-in;
+    split = walk-first n slot left h ∙ ap (λ (is : List ℕ). slot ∷ is) (rw (← g) (d .split))
+        ∙ ap (λ (is : List ℕ). is ++ (d .gap ++ walk n (rest .slot) (rest .left))) (sym run);
+  }
+    where
+      run : walk n slot (left - last) ≡ slot ∷ walk n next (left - 1 - last)
+      run = let b : left - last - 1 ≡ left - 1 - last = omega arith in walk-first n slot (left - last) (omega arith) ∙ rw (b, g)
 
 -- ---- against the reading order
 
-pub before-in : (n i : ℕ) → 0 < i → i < n → suc (i - 1) % n ≡ i
-before-in n i z h = let e : suc (i - 1) ≡ i = omega arith in rw e (mod-eq-of-lt h)
+pub slot-in : (n v : ℕ) → v < n → v ≡ v % n
+slot-in n v h = sym (mod-eq-of-lt h)
 
-pub before-round : (n i : ℕ) → i < n → i ≡ 0 → suc (n - 1) % n ≡ i
-before-round n i h e = let k : suc (n - 1) ≡ n = omega arith in rw (k, e) (mod-self n)
+pub slot-round : (n v : ℕ) → n ≤ v → v < n + n → v - n ≡ v % n
+slot-round n v h k =
+    let e : v ≡ v - n + n = omega arith in
+    let l : v - n < n = omega arith in
+    sym (ap (λ (x : ℕ). x % n) e ∙ add-mod-right (v - n) n ∙ mod-eq-of-lt l)
 
--- the slot behind k slots
-pub steps-is : (n i : ℕ) → i < n → (k : ℕ) → k ≤ n → ((i + k < n) → steps n i k ≡ i + k) × (n ≤ i + k → steps n i k ≡ i + k - n)
+-- the place of the slot at v, where the reading ends before b
+abbrev pub placeAt : ℕ → ℕ → ℕ → Place
+placeAt n b v = record { slot = v % n; left = b - v }
+
+pub steps-are : (n i k : ℕ) → i < n → steps n i k ≡ (i + k) % n
 unfolding steps
-steps-is n i h zero l = (λ a. omega arith, λ a. absurd (omega arith))
-steps-is n i h (suc k) l = go (steps-is n i h k (omega arith)) (decLt (i + k) n)
-  where
-    go : ((i + k < n) → steps n i k ≡ i + k) × (n ≤ i + k → steps n i k ≡ i + k - n) → Dec (i + k < n)
-        → ((i + suc k < n) → suc (steps n i k) % n ≡ i + suc k) × (n ≤ i + suc k → suc (steps n i k) % n ≡ i + suc k - n)
-    go ih (yes a) = (λ b. in-turn b, λ b. round-turn b)
-      where
-        in-turn : i + suc k < n → suc (steps n i k) % n ≡ i + suc k
-        in-turn b = let e : suc (steps n i k) ≡ i + suc k = omega (arith, ih .0 a) in rw e (mod-eq-of-lt b)
-
-        round-turn : n ≤ i + suc k → suc (steps n i k) % n ≡ i + suc k - n
-        round-turn b =
-            let e : suc (steps n i k) ≡ n = omega (arith, ih .0 a) in
-            let f : i + suc k - n ≡ 0 = omega arith in
-            rw (e, f) (mod-self n)
-    go ih (no a) = (λ b. absurd (omega arith), λ b. round-turn)
-      where
-        round-turn : suc (steps n i k) % n ≡ i + suc k - n
-        round-turn =
-            let e : suc (steps n i k) ≡ i + suc k - n = omega (arith, ih .1 (omega arith)) in
-            let f : i + suc k - n < n = omega arith in
-            rw e (mod-eq-of-lt f)
-
-steps-in : (n i : ℕ) → i < n → (k : ℕ) → k ≤ n → steps n i k < n
-steps-in n i h k l = let s = steps-is n i h k l in go s (decLt (i + k) n)
-  where
-    go : ((i + k < n) → steps n i k ≡ i + k) × (n ≤ i + k → steps n i k ≡ i + k - n) → Dec (i + k < n) → steps n i k < n
-    go s (yes a) = omega (arith, s .0 a)
-    go s (no a) = omega (arith, s .1 (omega arith))
-
--- two slots with one next slot are one
-same-before : (n x y : ℕ) → x < n → y < n → suc x % n ≡ suc y % n → x ≡ y
-same-before n x y h k e = go (decLt (suc x) n) (decLt (suc y) n)
-  where
-    zero-of : (u : ℕ) → u < n → n ≤ suc u → suc u % n ≡ 0
-    zero-of u a b = let f : suc u ≡ n = omega arith in rw f (mod-self n)
-
-    go : Dec (suc x < n) → Dec (suc y < n) → x ≡ y
-    go (yes a) (yes b) = omega (arith, mod-eq-of-lt a, mod-eq-of-lt b, e)
-    go (yes a) (no b) = absurd (omega (arith, mod-eq-of-lt a, zero-of y k (omega arith), e))
-    go (no a) (yes b) = absurd (omega (arith, zero-of x h (omega arith), mod-eq-of-lt b, e))
-    go (no a) (no b) = omega arith
-
--- one step less
-pub step-less : (n i k met : ℕ) {slot before : ℕ} → i < n → k ≤ n → met < k → slot ≡ steps n i (k - met) → suc before % n ≡ slot → before < n
-    → before ≡ steps n i (k - (met + 1))
-step-less n i k met {slot} {before} h l m e f b =
-    let u : k - met ≡ suc (k - (met + 1)) = omega arith in
-    same-before n before (steps n i (k - (met + 1))) b (steps-in n i h (k - (met + 1)) (omega arith)) (f ∙ e ∙ ap (steps n i) u ∙ unfold steps in refl)
+steps-are n i zero h = slot-in n i h ∙ ap (λ (x : ℕ). x % n) (sym (add-zero i))
+steps-are n i (suc k) h = ap (λ (x : ℕ). suc x % n) (steps-are n i k h) ∙ sym (suc-mod (i + k) n) ∙ ap (λ (x : ℕ). x % n) (sym (add-suc i k))
 
 -- ---- one stamp met
 
@@ -192,15 +198,9 @@ module _ (start long end low : ℕ) (p : Place) (t : ℕ) (here : Place) where
 pub met-walk : (n slot before met : ℕ) → suc before % n ≡ slot → walk n before (met + 1) ≡ before ∷ walk n slot met
 met-walk n slot before met e = let k : met + 1 - 1 ≡ met = omega arith in walk-first n before (met + 1) (omega arith) ∙ rw (e, k)
 
-pub none-walk : (q : Job) (n slot : ℕ) (p : Place) → p .slot < n → p .left ≡ 0 → Edged q n (walk n slot 0) (q .end) (q .end) p
+pub none-walk : (q : Job) (n b : ℕ) → 0 < n → Edged q n (walk n (b % n) (b - b)) (q .end) (q .end) (placeAt n b b)
 unfolding walk
-none-walk q n slot p h e = none-met q n p h e
-
-pub all-steps : (n i k : ℕ) {r : ℕ} → r ≡ steps n i k → r ≡ steps n i (k - 0)
-all-steps n i k e = let f : k ≡ k - 0 = omega arith in e ∙ ap (steps n i) f
-
-pub no-steps : (n i k met : ℕ) {r : ℕ} → k ≤ met → r ≡ steps n i (k - met) → r ≡ i
-no-steps n i k met h e = let f : k - met ≡ 0 = omega arith in e ∙ ap (steps n i) f ∙ unfold steps in refl
+none-walk q n b z = let e : b - b ≡ 0 = omega arith in rw e (none-met q n (record { slot = b % n; left = 0 }) (mod-lt b z) refl)
 
 pub turn-more : (q : Job) → 0 < q .long → (n slot before met : ℕ) {t end low end' low' : ℕ} {p p' : Place} → t ≡ stamp (q .source .slab) before → suc before % n ≡ slot → before < n
     → Edged q n (walk n slot met) end low p → Meets (q .start) (q .long) end low p t (record { slot = before; left = met + 1 }) end' low' p'
@@ -211,10 +211,41 @@ turn-more q z n slot before met {t} {end} {low} {end'} {low'} {p} {p'} e f h g m
     subst (λ (x : ℕ). Meets (q .start) (q .long) end low p x (record { slot = before; left = met + 1 }) end' low' p') e m in
     subst (λ (is : List ℕ). Edged q n is end' low' p') (sym w) (turn q z g m' h (omega (arith, length-walk n slot met)) w)
 
-pub met-all : (q : Job) (n : ℕ) (first : Place) {slot met end low : ℕ} {r : Strand} → Edged q n (walk n slot met) end low (r .place) → end ≡ r .end → first .left ≤ met
-    → met ≤ first .left → slot ≡ steps n (first .slot) (first .left - met) → Stranded q n first r
-met-all q n first {slot} {met} {end} {low} {r} g e h k f =
-    let a : slot ≡ first .slot = no-steps n (first .slot) (first .left) met h f in
-    let b : met ≡ first .left = omega arith in
-    all-met q n first (subst (λ (x : ℕ). Edged q n (walk n (first .slot) x) end low (r .place)) b (subst (λ (x : ℕ). Edged q n (walk n x met) end low (r .place)) a g)) e
-    (length-walk n (first .slot) (first .left))
+-- the slot before v, however it stands to the part
+pub met-more : (q : Job) → 0 < q .long → (n b v : ℕ) {slot t end low end' low' : ℕ} {p p' : Place} → 0 < v → v ≤ b → slot ≡ (v - 1) % n → slot < n
+    → t ≡ stamp (q .source .slab) slot → Edged q n (walk n (v % n) (b - v)) end low p
+    → Meets (q .start) (q .long) end low p t (placeAt n b (v - 1)) end' low' p' → Edged q n (walk n ((v - 1) % n) (b - (v - 1))) end' low' p'
+met-more q z n b v {slot} {t} {end} {low} {end'} {low'} {p} {p'} y l e h s g m =
+    let f : suc (v - 1) ≡ v = omega arith in
+    let next : suc ((v - 1) % n) % n ≡ v % n = sym (suc-mod (v - 1) n) ∙ ap (λ (x : ℕ). x % n) f in
+    let k : b - (v - 1) ≡ b - v + 1 = omega arith in
+    rw k (turn-more q z n (v % n) ((v - 1) % n) (b - v) (s ∙ ap (stamp (q .source .slab)) e) next (subst (λ (x : ℕ). x < n) e h) g (rw k at m))
+
+pub met-all : (q : Job) (n : ℕ) (place : Place) {v end low : ℕ} {p : Place} → place .slot < n → v ≡ place .slot
+    → Edged q n (walk n (v % n) (place .slot + place .left - v)) end low p → Edged q n (walk n (place .slot) (place .left)) end low p
+met-all q n place {v} {end} {low} {p} h e g =
+    let a : v % n ≡ place .slot = ap (λ (x : ℕ). x % n) e ∙ mod-eq-of-lt h in
+    let b : place .slot + place .left - v ≡ place .left = omega (arith, e) in
+    rw (a, b) at g
+
+-- ---- the last slots, one more of which is not in the range
+
+pub none-trimmed : (q : Job) (n : ℕ) (p : Place) → p .slot < n → Trimmed q n p p
+none-trimmed q n p h = record { slot-in = h; fewer = omega arith; gap = []; none-in = tt; split = sym (append-nil (walk n (p .slot) (p .left))) }
+
+pub trim-more : (q : Job) (n : ℕ) (p : Place) (left : ℕ) {slot t : ℕ} → p .slot < n → 0 < left → slot ≡ (p .slot + left - 1) % n → t ≡ stamp (q .source .slab) slot
+    → inRange (q .start) (q .end) t ≡ false → Trimmed q n p (record { slot = p .slot; left = left }) → Trimmed q n p (record { slot = p .slot; left = left - 1 })
+trim-more q n p left {slot} {t} i h e f o d = record {
+  slot-in = d .slot-in;
+  fewer = omega (arith, d .fewer);
+  gap = slot ∷ d .gap;
+  none-in = (sym (ap (inRange (q .start) (q .end)) f) ∙ o, d .none-in);
+  split = d .split ∙ ap (λ (is : List ℕ). is ++ d .gap) last ∙ append-assoc (walk n (p .slot) (left - 1)) (slot ∷ []) (d .gap);
+}
+  where
+    last : walk n (p .slot) left ≡ walk n (p .slot) (left - 1) ++ slot ∷ []
+    last =
+        let u : left ≡ suc (left - 1) = omega arith in
+        let k : p .slot + (left - 1) ≡ p .slot + left - 1 = omega arith in
+        let s : steps n (p .slot) (left - 1) ≡ slot = steps-are n (p .slot) (left - 1) i ∙ ap (λ (x : ℕ). x % n) k ∙ sym e in
+        ap (walk n (p .slot)) u ∙ walk-more n (p .slot) (left - 1) ∙ rw s

@@ -1,14 +1,14 @@
--- The words of the contracts: the slots from a limit on, stamps that never fall, and what a place passes over. Assumes nothing.
+-- The words of the contracts: the slots from a limit on, windows that never fall, what is passed over, and a run. Assumes nothing.
 use Prim.Native.Nat.{ℕ, suc, _+_, _-_, _%_, _≤_, _<_}
 use mathlib.Core.Path.{_≡_}
-use mathlib.Core.Bool.{Bool, true, _&&_, cond}
+use mathlib.Core.Bool.{Bool, true, false, _&&_, cond}
 use mathlib.Core.List.{List, [], _∷_, _++_}
 use lib.Dec.{leb, ltb}
 use Rattle.model.specs.declared.Place.{Place}
 use Rattle.model.specs.Ring.{stamp, walk}
 use Rattle.model.specs.Window.{Job, windowOf}
-use Rattle.rings.specs.Walk.{steps}
 use Rattle.span.specs.declared.Run.{Run}
+use Rattle.span.specs.declared.Skipping.{Skipping}
 
 -- a stamp from start up to end
 unfoldable pub inRange : ℕ → ℕ → ℕ → Bool
@@ -30,20 +30,31 @@ rising q low (i ∷ is) =
     let t = stamp (q .source .slab) i in
     cond (inRange (q .start) (q .end) t) (leb low (windowOf (q .long) t) && rising q (windowOf (q .long) t) is) (rising q low is)
 
--- the place r is the place p with the slots before the limit passed over
-pub record Skipped (q : Job) (n limit : ℕ) (p r : Place) : Type 0 where
-  pub slot-in : r .slot < n
-  pub fewer : r .left ≤ p .left
-  pub rest-is : walk n (r .slot) (r .left) ≡ from q limit (walk n (p .slot) (p .left))
-  pub slot-is : r .slot ≡ steps n (p .slot) (p .left - r .left)
+-- none of these slots' stamps lies in the range
+abbrev pub NoneIn : Job → List ℕ → Type 0
+NoneIn q [] = Unit {0}
+NoneIn q (i ∷ is) = (inRange (q .start) (q .end) (stamp (q .source .slab) i) ≡ false) × NoneIn q is
 
--- at a place p whose first slot is i: its window, the run of slots that has all of it, and the place behind the run
+-- these slots are a run, then some that are not in the range, then the rest
+pub record Parted (q : Job) (n : ℕ) (is : List ℕ) (run rest : Place) : Type 0 where
+  pub gap : List ℕ
+  pub none-in : NoneIn q gap
+  pub split : is ≡ walk n (run .slot) (run .left) ++ (gap ++ walk n (rest .slot) (rest .left))
+
+-- of the slots at the place p, those before the limit are passed over; the last of them in the range has `last` slots behind it
+pub record Skipped (q : Job) (n limit : ℕ) (p : Place) (r : Skipping) : Type 0 where
+  pub slot-in : r .rest .slot < n
+  pub fewer : r .rest .left ≤ p .left
+  pub last-few : r .last ≤ p .left
+  pub rest-is : walk n (r .rest .slot) (r .rest .left) ≡ from q limit (walk n (p .slot) (p .left))
+  pub parted : Parted q n (walk n (p .slot) (p .left)) (record { slot = p .slot; left = p .left - r .last }) (r .rest)
+
+-- at a place p whose first slot is i: its window, the run of slots that has all of it, and the place of the rest
 pub record Ran (q : Job) (n : ℕ) (p : Place) (r : Run) : Type 0 where
   pub window-is : r .window ≡ windowOf (q .long) (stamp (q .source .slab) (p .slot))
   pub run-in : r .run .slot < n
   pub run-few : r .run .left ≤ p .left
   pub rest-in : r .rest .slot < n
   pub fewer : r .rest .left < p .left
-  pub split : walk n (p .slot) (p .left) ≡ walk n (r .run .slot) (r .run .left) ++ walk n (r .rest .slot) (r .rest .left)
   pub rest-is : walk n (r .rest .slot) (r .rest .left) ≡ from q (r .window + q .long) (walk n (suc (p .slot) % n) (p .left - 1))
-  pub rest-slot-is : r .rest .slot ≡ steps n (suc (p .slot) % n) (p .left - 1 - r .rest .left)
+  pub parted : Parted q n (walk n (p .slot) (p .left)) (r .run) (r .rest)

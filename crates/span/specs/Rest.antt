@@ -5,11 +5,11 @@ use Prim.Native.Nat.{ℕ, zero, suc, _+_, _-_, _≤_, _<_}
 use native.Mathlib.Nat.{zero-add}
 use native.Mathlib.Omega.{arith}
 use native.Mathlib.Decide.{decLt}
-use mathlib.Core.Path.{_≡_, refl, sym, ap, _∙_}
+use mathlib.Core.Path.{_≡_, refl, sym, ap, _∙_, subst}
 use mathlib.Core.Logic.{_≢_}
 use mathlib.Core.Bool.{Bool, true, false, _&&_, false≢true}
-use mathlib.Core.List.{List, [], _∷_, _++_}
-use lib.ListN.{length}
+use mathlib.Core.List.{List, [], _∷_, _++_, append-nil}
+use lib.ListN.{length, length-append}
 use lib.Dec.{leb, ltb}
 use Rattle.model.specs.declared.End.{End}
 use Rattle.model.specs.declared.End.the-variants.{At, Missing}
@@ -22,7 +22,7 @@ use Rattle.laws.specs.Tests.{yes-le, yes-lt, no-le, no-lt, le-is, lt-is, and-le
 use Rattle.window.specs.Parts.{along}
 use Rattle.window.specs.Starts.{window-low, window-next}
 use Rattle.window.proofs.Laws.{before-start, past-end, other-window}
-use Rattle.span.specs.Parts.{inRange, isFrom, from, rising}
+use Rattle.span.specs.Parts.{inRange, isFrom, from, rising, NoneIn}
 
 module _ (q : Job) where
   abbrev stampOf : ℕ → ℕ
@@ -106,6 +106,20 @@ module _ (q : Job) where
       let k = all-out w c is (o .1) in
       rw e (omega (arith, k .0), k .1)
 
+  -- slots that are not in the range, before such slots
+  out-none : (w : ℕ) (gap : List ℕ) → NoneIn q gap → (js : List ℕ) → Out w js → Out w (gap ++ js)
+  out-none w [] o js k = k
+  out-none w (i ∷ is) o js k = ((λ e. absurd (false≢true (sym (o .0) ∙ e))), out-none w is (o .1) js k)
+
+  least-none : (b : ℕ) (tail : List ℕ) → NoneIn q tail → (is : List ℕ) (e : End) → leastFrom q b e (is ++ tail) ≡ leastFrom q b e is
+  unfolding leastFrom
+  least-none b tail o (i ∷ is) e = least-none b tail o is (lowerIf (isNext q b (stampOf i)) e (windowOf (q .long) (stampOf i)))
+  least-none b tail o [] e = none tail o
+    where
+      none : (js : List ℕ) → NoneIn q js → leastFrom q b e js ≡ e
+      none [] o = refl
+      none (j ∷ js) o = least-first b j js e (λ f. absurd (false≢true (sym (o .0) ∙ f))) ∙ none js (o .1)
+
   last-out : (w c : ℕ) (is js : List ℕ) → Out w js → Same (heldIn q w c (is ++ js)) (heldIn q w c is)
   unfolding heldIn seen finites
   last-out w c [] js o = record { seen-is = all-out w c js o .0; finite-is = all-out w c js o .1 }
@@ -152,6 +166,14 @@ module _ (q : Job) where
       go : (a : Bool) → inside (stampOf i) ≡ a → ((l : ℕ) → rising q l is ≡ true → Above l is) → Above low (i ∷ is)
       go false e ih = ((λ f. absurd (false≢true (sym e ∙ f))), ih low (rising-out low i is e r))
       go true e ih = let k = rising-in low i is e r in ((λ f. k .0), above-less low (windowOf (q .long) (stampOf i)) (k .0) is (ih (windowOf (q .long) (stampOf i)) (k .1)))
+
+  rising-first : (is tail : List ℕ) (low : ℕ) → rising q low (is ++ tail) ≡ true → rising q low is ≡ true
+  rising-first [] tail low r = unfold rising in refl
+  rising-first (i ∷ is) tail low r = go (inside (stampOf i)) refl (rising-first is tail)
+    where
+      go : (a : Bool) → inside (stampOf i) ≡ a → ((l : ℕ) → rising q l (is ++ tail) ≡ true → rising q l is ≡ true) → rising q low (i ∷ is) ≡ true
+      go false e ih = rise-out low i is e (ih low (rising-out low i (is ++ tail) e r))
+      go true e ih = let k = rising-in low i (is ++ tail) e r in rise-in low i is e (k .0) (ih (windowOf (q .long) (stampOf i)) (k .1))
 
   pub rising-less : (is : List ℕ) (low high : ℕ) → low ≤ high → rising q high is ≡ true → rising q low is ≡ true
   rising-less [] low high h r = unfold rising in refl
@@ -285,6 +307,25 @@ module _ (q : Job) where
       first : (w c : ℕ) → windowAnswer q w c ≡ along q w c (order (q .source))
       first w c = unfold windowAnswer along in refl
 
+  -- the last slots need not be read where none of them is in the range
+  pub without : {m : ℕ} {total f : Filled} (is tail : List ℕ) → NoneIn q tail → Rest m total f (is ++ tail) → Rest m total f is
+  without {m} {total} {f} is tail o r = record {
+    bound = r .bound;
+    limit = r .limit;
+    fuel = r .fuel;
+    high-edge = r .high-edge;
+    head = first is (r .head);
+    up = rising-first is tail 0 (r .up);
+    enough = omega (arith, r .enough, length-append is tail);
+    next = λ b h. r .next b h ∙ least-none b tail o is Missing;
+    same = λ w c h. r .same w c h ∙ same-along w c (is ++ tail) is (last-out w c is tail (subst (Out w) (append-nil tail) (out-none w tail o [] tt)));
+    remains = r .remains;
+  }
+    where
+      first : (js : List ℕ) → Head (r .limit) (js ++ tail) → Head (r .limit) js
+      first [] h = tt
+      first (j ∷ js) h = h
+
   -- no slot is left
   pub nothing-left : {m : ℕ} {total f : Filled} → Rest m total f [] → f ≡ total
   nothing-left {m} {total} {f} r = go (r .fuel) (rw (r .next (r .bound) (omega arith)) at (r .remains))
@@ -337,13 +378,17 @@ module _ (q : Job) where
     up-behind : rising q 0 is ≡ true
     up-behind = let k = rising-in 0 i is (in-here .0) (r .up) in rising-less is 0 here (omega arith) (k .1)
 
-    -- and the slots up to the first of a later window have all of it
-    pub run-same : (run : List ℕ) → i ∷ is ≡ run ++ rest → (c : ℕ) → windowAnswer q here c ≡ along q here c run
-    run-same run e c =
+    -- and the slots up to the first of a later window have all of it, also without the last of them that are not in the range
+    pub run-same : (run gap : List ℕ) → NoneIn q gap → i ∷ is ≡ run ++ (gap ++ rest) → (c : ℕ) → windowAnswer q here c ≡ along q here c run
+    run-same run gap o e c =
         r .same here c bound-low ∙ ap (along q here c) e
-        ∙ same-along here c (run ++ rest) run
-        (last-out here c run rest (none rest (head-above (here + q .long) (λ t h. window-next (q .long) z (stampOf i) t h) rest (head-from (here + q .long) is) (rising-from (here + q .long) is 0 up-behind))))
+        ∙ same-along here c (run ++ (gap ++ rest)) run (last-out here c run (gap ++ rest) (out-none here gap o rest (none rest behind)))
       where
+        behind : Above (here + q .long) rest
+        behind =
+            head-above (here + q .long) (λ t h. window-next (q .long) z (stampOf i) t h) rest (head-from (here + q .long) is)
+            (rising-from (here + q .long) is 0 up-behind)
+
         none : (js : List ℕ) → Above (here + q .long) js → Out here js
         none [] a = tt
         none (j ∷ js) a = ((λ e g. omega (arith, z, a .0 e)), none js (a .1))

@@ -3,21 +3,22 @@
 use Prim.Native.Nat.{ℕ, suc, _+_, _-_, _≤_, _<_}
 use native.Mathlib.Omega.{arith}
 use native.Mathlib.Decide.{decLt}
-use mathlib.Core.Path.{_≡_, refl, sym, _∙_, subst}
+use mathlib.Core.Path.{_≡_, refl, sym, ap, _∙_, subst}
 use mathlib.Core.Logic.{_⊎_, inl, inr}
 use mathlib.Core.Bool.{Bool, true, false, false≢true}
-use mathlib.Core.List.{List, [], _∷_}
+use mathlib.Core.List.{List, [], _∷_, _++_}
 use lib.ListN.{length}
 use Rattle.model.specs.declared.Place.{Place}
 use Rattle.model.specs.Ring.{stamp, walk}
 use Rattle.model.specs.Window.{Job, windowOf}
 use Rattle.laws.specs.Tests.{yes-le}
+use Rattle.rings.specs.Numbers.{length-walk}
 use Rattle.window.specs.Starts.{window-le, window-mono, window-low, window-next, window-span}
 use Rattle.window.proofs.Laws.{window-again}
 use Rattle.search.specs.Cut.{upto}
-use Rattle.strand_theory.specs.Cuts.{In, Cut}
+use Rattle.strand_theory.specs.Cuts.{In, Before, Cut}
 use Rattle.span.specs.declared.Strand.{Strand}
-use Rattle.span.specs.Parts.{inRange, isFrom, from, rising}
+use Rattle.span.specs.Parts.{inRange, isFrom, from, rising, NoneIn}
 use Rattle.span.specs.Rest.{inside-is, inside-yes, rising-in, rising-out, rise-in, rise-out, rising-less, from-stop, from-pass}
 
 -- the window `low` is that of one of these slots, in the range
@@ -50,11 +51,21 @@ pub record Meets (start long end low : ℕ) (p : Place) (t : ℕ) (here : Place)
   pub same : inRange start end t ≡ true → low ≤ t → t < low + long → (end' ≡ end) × (low' ≡ low) × (p' ≡ here)
   pub above : inRange start end t ≡ true → low + long ≤ t → (end' ≡ windowOf long t) × (low' ≡ low) × (p' ≡ p)
 
--- the part up to r's end
+-- the place r is the place p without some last slots that are not in the range
+pub record Trimmed (q : Job) (n : ℕ) (p r : Place) : Type 0 where
+  pub slot-in : r .slot < n
+  pub fewer : r .left ≤ p .left
+  pub gap : List ℕ
+  pub none-in : NoneIn q gap
+  pub split : walk n (p .slot) (p .left) ≡ walk n (r .slot) (r .left) ++ gap
+
+-- the part up to r's end: its slots are those from r's place on, and some that are not in it
 pub record Stranded (q : Job) (n : ℕ) (p : Place) (r : Strand) : Type 0 where
   pub slot-in : r .place .slot < n
   pub fewer : r .place .left ≤ p .left
-  pub rest-is : walk n (r .place .slot) (r .place .left) ≡ from (upto q (r .end)) 0 (walk n (p .slot) (p .left))
+  pub tail : List ℕ
+  pub none-in : NoneIn (upto q (r .end)) tail
+  pub rest-is : from (upto q (r .end)) 0 (walk n (p .slot) (p .left)) ≡ walk n (r .place .slot) (r .place .left) ++ tail
   pub up : rising (upto q (r .end)) 0 (walk n (p .slot) (p .left)) ≡ true
   pub end-is : (r .end ≡ q .end) ⊎ Cut q (walk n (p .slot) (p .left)) (q .start) (r .end)
 
@@ -259,13 +270,86 @@ none-met q n p h e = record {
   end-is = inl refl;
 }
 
+-- ---- slots behind that are not in the range
+
+module _ (q : Job) (z : 0 < q .long) where
+  record Tail (is gap : List ℕ) : Type 0 where
+    tail : List ℕ
+    none-in : NoneIn q tail
+    from-is : from q 0 (is ++ gap) ≡ from q 0 is ++ tail
+
+  from-none : (gap : List ℕ) → NoneIn q gap → from q 0 gap ≡ []
+  from-none [] o = unfold from in refl
+  from-none (i ∷ is) o = from-pass q 0 i is (from-zero q z (q .end) (stamp (q .source .slab) i) false (o .0)) ∙ from-none is (o .1)
+
+  from-behind : (is gap : List ℕ) → NoneIn q gap → Tail is gap
+  from-behind [] gap o = record { tail = []; none-in = tt; from-is = unfold from in from-none gap o }
+  from-behind (i ∷ is) gap o = go (isFrom (q .start) (q .end) 0 (stamp (q .source .slab) i)) refl (from-behind is gap o)
+    where
+      go : (x : Bool) → isFrom (q .start) (q .end) 0 (stamp (q .source .slab) i) ≡ x → Tail is gap → Tail (i ∷ is) gap
+      go true e t = record { tail = gap; none-in = o; from-is = rw (from-stop q 0 i (is ++ gap) e, from-stop q 0 i is e) }
+      go false e t = record { tail = t .tail; none-in = t .none-in; from-is = rw (from-pass q 0 i (is ++ gap) e, from-pass q 0 i is e) (t .from-is) }
+
+  rising-none : (gap : List ℕ) (low : ℕ) → NoneIn q gap → rising q low gap ≡ true
+  rising-none [] low o = unfold rising in refl
+  rising-none (i ∷ is) low o = rise-out q low i is (o .0) (rising-none is low (o .1))
+
+  rising-behind : (is gap : List ℕ) (low : ℕ) → NoneIn q gap → rising q low is ≡ true → rising q low (is ++ gap) ≡ true
+  rising-behind [] gap low o r = rising-none gap low o
+  rising-behind (i ∷ is) gap low o r = go (inRange (q .start) (q .end) (stamp (q .source .slab) i)) refl (λ l. rising-behind is gap l o)
+    where
+      go : (x : Bool) → inRange (q .start) (q .end) (stamp (q .source .slab) i) ≡ x → ((l : ℕ) → rising q l is ≡ true → rising q l (is ++ gap) ≡ true)
+          → rising q low (i ∷ is ++ gap) ≡ true
+      go false e ih = rise-out q low i (is ++ gap) e (ih low (rising-out q low i is e r))
+      go true e ih = let k = rising-in q low i is e r in rise-in q low i (is ++ gap) e (k .0) (ih (windowOf (q .long) (stamp (q .source .slab) i)) (k .1))
+
+in-behind : (x : ℕ) (is gap : List ℕ) → In x is → In x (is ++ gap)
+in-behind x [] gap a = absurd a
+in-behind x (i ∷ is) gap (inl e) = inl e
+in-behind x (i ∷ is) gap (inr a) = inr (in-behind x is gap a)
+
+before-behind : (x y : ℕ) (is gap : List ℕ) → Before x y is → Before x y (is ++ gap)
+before-behind x y [] gap a = absurd a
+before-behind x y (i ∷ is) gap (inl e) = inl (e .0, in-behind y is gap (e .1))
+before-behind x y (i ∷ is) gap (inr a) = inr (before-behind x y is gap a)
+
+cut-behind : (q : Job) {e : ℕ} (is gap : List ℕ) → (e ≡ q .end) ⊎ Cut q is (q .start) e → (e ≡ q .end) ⊎ Cut q (is ++ gap) (q .start) e
+cut-behind q is gap (inl h) = inl h
+cut-behind q is gap (inr c) = inr (record {
+  high = c .high;
+  low = c .low;
+  before = before-behind (c .high) (c .low) is gap (c .before);
+  high-is = c .high-is;
+  high-below = c .high-below;
+  low-from = c .low-from;
+  low-under = c .low-under;
+})
+
+none-shorter : (q : Job) → 0 < q .long → (b : ℕ) → b ≤ q .end → (gap : List ℕ) → NoneIn q gap → NoneIn (upto q b) gap
+none-shorter q z b h [] o = tt
+none-shorter q z b h (i ∷ is) o = (shorter q z (q .end) b h (stamp (q .source .slab) i) (o .0), none-shorter q z b h is (o .1))
+
 -- all was met
-pub all-met : (q : Job) (n : ℕ) (p : Place) {end low : ℕ} {r : Strand} → Edged q n (walk n (p .slot) (p .left)) end low (r .place) → end ≡ r .end
-    → length (walk n (p .slot) (p .left)) ≡ p .left → Stranded q n p r
-all-met q n p {end} {low} {r} g e l = record {
+pub all-met : (q : Job) → 0 < q .long → (n : ℕ) (p : Place) {part : Place} {low : ℕ} {r : Strand} → Trimmed q n p part
+    → Edged q n (walk n (part .slot) (part .left)) (r .end) low (r .place) → Stranded q n p r
+all-met q z n p {part} {low} {r} t g = record {
   slot-in = g .slot-in;
-  fewer = omega (arith, g .few, l);
-  rest-is = subst (λ (x : ℕ). walk n (r .place .slot) (r .place .left) ≡ from (upto q x) 0 (walk n (p .slot) (p .left))) e (g .here);
-  up = subst (λ (x : ℕ). rising (upto q x) 0 (walk n (p .slot) (p .left)) ≡ true) e (rising-less (upto q end) (walk n (p .slot) (p .left)) 0 low (omega arith) (g .up));
-  end-is = subst (λ (x : ℕ). (x ≡ q .end) ⊎ Cut q (walk n (p .slot) (p .left)) (q .start) x) e (g .end-is);
+  fewer = omega (arith, g .few, length-walk n (part .slot) (part .left), t .fewer);
+  tail = behind .tail;
+  none-in = behind .none-in;
+  rest-is = ap (from u 0) (t .split) ∙ behind .from-is ∙ ap (λ (is : List ℕ). is ++ behind .tail) (sym (g .here));
+  up = subst (λ (is : List ℕ). rising u 0 is ≡ true) (sym (t .split)) (rising-behind u z met (t .gap) 0 outside (rising-less u met 0 low (omega arith) (g .up)));
+  end-is = subst (λ (is : List ℕ). (r .end ≡ q .end) ⊎ Cut q is (q .start) (r .end)) (sym (t .split)) (cut-behind q met (t .gap) (g .end-is));
 }
+  where
+    u : Job
+    u = upto q (r .end)
+
+    met : List ℕ
+    met = walk n (part .slot) (part .left)
+
+    outside : NoneIn u (t .gap)
+    outside = none-shorter q z (r .end) (short q z (g .end-is)) (t .gap) (t .none-in)
+
+    behind : Tail u z met (t .gap)
+    behind = from-behind u z met (t .gap) outside

@@ -1,14 +1,20 @@
-// A source whose stamps never fall in reading order, met window by window: the slots before a limit are passed over, and the slots of one window are a run.
+// A source whose windows never fall in reading order, met window by window: the slots before a limit are passed over, and the slots of one window are a run.
 // `specs/Rest.antt` has the laws: such runs are the windows that the search finds, in its order, and a run has all that its window has.
 ghost use mathlib.Core.Path.{_≡_};
-ghost use Prim.Native.Nat.{suc, _+_, _%_, _<_, _≤_};
+ghost use Prim.Native.Nat.{_+_, _%_, _<_, _≤_};
 ghost use Rattle.window.specs.Parts.{Readable, jobIn};
-ghost use Rattle.rings.specs.Walk.{steps};
+ghost use Rattle.model.specs.Ring.{walk};
 ghost use Rattle.span.specs.Parts.{inRange, isFrom, Skipped, Ran};
 ghost use Rattle.search.specs.Cut.{onward};
-ghost use Rattle.span.specs.Strand.{Meets, Stranded};
+ghost use Rattle.span.specs.Strand.{Edged, Trimmed, Stranded};
 
-// A window, the slots that have it, and the place behind them.
+// The place of the rest behind slots passed over, and how many slots are left behind the last of those in the range.
+struct Skipping {
+    rest: model::Place,
+    last: usize,
+}
+
+// A window, the slots that have it, and the place of the rest: between them are slots that are not in the range.
 pub struct Run {
     pub window: u64,
     pub run: model::Place,
@@ -16,17 +22,17 @@ pub struct Run {
 }
 
 // A stamp in the range.
-fn in_range(q: window::Reading, stamp: u64) -> bool
-    ensures { λ r. ⌜ r ≡ inRange (q .start) (q .end) stamp ⌝ }
+fn in_range(start: u64, end: u64, stamp: u64) -> bool
+    ensures { λ r. ⌜ r ≡ inRange start end stamp ⌝ }
 {
-    q.start <= stamp && stamp < q.end
+    start <= stamp && stamp < end
 }
 
 // A stamp in the range, not below window + width.
 fn is_from(q: window::Reading, window: u64, width: u64, stamp: u64) -> bool
     ensures { λ r. ⌜ r ≡ isFrom (q .start) (q .end) (window + width) stamp ⌝ }
 {
-    let inside = in_range(q, stamp);
+    let inside = in_range(q.start, q.end, stamp);
     if !inside {
         return false;
     }
@@ -36,35 +42,45 @@ fn is_from(q: window::Reading, window: u64, width: u64, stamp: u64) -> bool
     width <= stamp - window
 }
 
-// The place of the first slot whose stamp lies in the range and not below window + width.
-pub fn skip(
-    slab: &[u8],
-    q: window::Reading,
-    window: u64,
-    width: u64,
-    place: model::Place,
-) -> model::Place
+// The slots before the first whose stamp lies in the range and not below window + width, passed over.
+fn skip(slab: &[u8], q: window::Reading, window: u64, width: u64, place: model::Place) -> Skipping
     requires { ⌜ Readable (now slab) q ⌝ }
     requires { ⌜ place .slot < q .slots ⌝ }
     ensures { λ r. ⌜ Skipped (jobIn (now (slab .entry)) q) (q .slots) (window + width) place r ⌝ }
 {
     let mut slot = place.slot;
     let mut left = place.left;
+    let mut last = place.left;
     while 0 < left {
         let t = ring::stamp_of(slab, q.slots, q.series, slot);
+        let inside = in_range(q.start, q.end, t);
+        if !inside {
+            slot = ring::next_slot(q.slots, slot);
+            left = left - 1;
+            continue;
+        }
         let found = is_from(q, window, width, t);
         if found {
-            return model::Place {
+            let rest = model::Place {
                 slot: slot,
                 left: left,
+            };
+            return Skipping {
+                rest: rest,
+                last: last,
             };
         }
         slot = ring::next_slot(q.slots, slot);
         left = left - 1;
+        last = left;
     }
-    model::Place {
+    let rest = model::Place {
         slot: slot,
         left: left,
+    };
+    Skipping {
+        rest: rest,
+        last: last,
     }
 }
 
@@ -83,10 +99,11 @@ pub fn next_run(slab: &[u8], q: window::Reading, place: model::Place) -> Run
         slot: next,
         left: left - 1,
     };
-    let rest = skip(slab, q, w, q.long, behind);
+    let over = skip(slab, q, w, q.long, behind);
+    let rest = over.rest;
     let run = model::Place {
         slot: slot,
-        left: left - rest.left,
+        left: left - over.last,
     };
     Run {
         window: w,
@@ -108,63 +125,84 @@ struct Edge {
     place: model::Place,
 }
 
-// The slot before a slot, round the ring.
-fn slot_before(n: usize, slot: usize) -> usize
-    requires { ⌜ slot < n ⌝ }
-    ensures { λ r. ⌜ (suc r % n ≡ slot) × (r < n) ⌝ }
+// The slot at v, counted on round the ring.
+fn slot_at(n: usize, v: usize) -> usize
+    requires { ⌜ v < n + n ⌝ }
+    ensures { λ r. ⌜ (r ≡ v % n) × (r < n) ⌝ }
 {
-    if slot == 0 {
-        return n - 1;
+    if v < n {
+        return v;
     }
-    slot - 1
+    v - n
 }
 
-// The slot behind a place.
-fn slot_behind(n: usize, place: model::Place) -> usize
-    requires { ⌜ (place .slot < n) × (place .left ≤ n) × (n < 4294967296) ⌝ }
-    ensures { λ r. ⌜ (r ≡ steps n (place .slot) (place .left)) × (r < n) ⌝ }
+// The part from `start` on, met from the last slot to the first, `head` being the first met of it. A window above the least of those behind it falls out of the
+// part, and the end comes down to it.
+fn edge_of(slab: &[u8], q: window::Reading, start: u64, place: model::Place) -> Edge
+    requires { ⌜ Readable (now slab) q ⌝ }
+    requires { ⌜ (place .slot < q .slots) × (place .left ≤ q .slots) ⌝ }
+    ensures { λ r. ⌜ Edged (onward (jobIn (now (slab .entry)) q) start) (q .slots) (walk (q .slots) (place .slot) (place .left)) (r .end) (r .low) (r .place) ⌝ }
 {
-    let next = place.slot + place.left;
-    if next < n {
-        return next;
+    let behind = place.slot + place.left;
+    let mut end = q.end;
+    let mut low = q.end;
+    let mut head = behind;
+    let mut v = behind;
+    while place.slot < v {
+        v = v - 1;
+        let slot = slot_at(q.slots, v);
+        let t = ring::stamp_of(slab, q.slots, q.series, slot);
+        if t < start {
+            continue;
+        }
+        if t >= end {
+            continue;
+        }
+        if t < low {
+            low = window::window_of(q.long, t);
+            head = v;
+            continue;
+        }
+        if q.long <= t - low {
+            end = window::window_of(q.long, t);
+            continue;
+        }
+        head = v;
     }
-    next - n
-}
-
-// One slot more, before those that were met. A window above the least of those behind it falls out of the part, and the end comes down to it.
-fn meet(start: u64, long: u64, e: Edge, stamp: u64, here: model::Place) -> Edge
-    requires { ⌜ 0 < long ⌝ }
-    ensures { λ r. ⌜ Meets start long (e .end) (e .low) (e .place) stamp here (r .end) (r .low) (r .place) ⌝ }
-{
-    let end = e.end;
-    let low = e.low;
-    let place = e.place;
-    if stamp < start {
-        return e;
-    }
-    if stamp >= end {
-        return e;
-    }
-    if stamp < low {
-        let w = window::window_of(long, stamp);
-        return Edge {
-            end: end,
-            low: w,
-            place: here,
-        };
-    }
-    if long <= stamp - low {
-        let w = window::window_of(long, stamp);
-        return Edge {
-            end: w,
-            low: low,
-            place: place,
-        };
-    }
+    let slot = slot_at(q.slots, head);
+    let first = model::Place {
+        slot: slot,
+        left: behind - head,
+    };
     Edge {
         end: end,
         low: low,
-        place: here,
+        place: first,
+    }
+}
+
+// The slots of a place up to the last one that is in the range from `start` on.
+fn up_to_last(slab: &[u8], q: window::Reading, start: u64, place: model::Place) -> model::Place
+    requires { ⌜ Readable (now slab) q ⌝ }
+    requires { ⌜ (place .slot < q .slots) × (place .left ≤ q .slots) ⌝ }
+    ensures { λ r. ⌜ Trimmed (onward (jobIn (now (slab .entry)) q) start) (q .slots) place r ⌝ }
+{
+    let mut left = place.left;
+    while 0 < left {
+        let slot = slot_at(q.slots, place.slot + left - 1);
+        let t = ring::stamp_of(slab, q.slots, q.series, slot);
+        let inside = in_range(start, q.end, t);
+        if inside {
+            return model::Place {
+                slot: place.slot,
+                left: left,
+            };
+        }
+        left = left - 1;
+    }
+    model::Place {
+        slot: place.slot,
+        left: left,
     }
 }
 
@@ -174,27 +212,8 @@ pub fn next_strand(slab: &[u8], q: window::Reading, start: u64, first: model::Pl
     requires { ⌜ (first .slot < q .slots) × (first .left ≤ q .slots) ⌝ }
     ensures { λ r. ⌜ Stranded (onward (jobIn (now (slab .entry)) q) start) (q .slots) first r ⌝ }
 {
-    let mut slot = slot_behind(q.slots, first);
-    let none = model::Place {
-        slot: slot,
-        left: 0,
-    };
-    let mut e = Edge {
-        end: q.end,
-        low: q.end,
-        place: none,
-    };
-    let mut met = 0;
-    while met < first.left {
-        slot = slot_before(q.slots, slot);
-        met = met + 1;
-        let t = ring::stamp_of(slab, q.slots, q.series, slot);
-        let here = model::Place {
-            slot: slot,
-            left: met,
-        };
-        e = meet(start, q.long, e, t, here);
-    }
+    let slots = up_to_last(slab, q, start, first);
+    let e = edge_of(slab, q, start, slots);
     let place = e.place;
     Strand {
         place: place,

@@ -17,7 +17,7 @@ use Rattle.answers.specs.declared.Filling.{Filling}
 use Rattle.fill.specs.declared.Pair.{Pair}
 use Rattle.fill.specs.Parts.{Keeps, Whole, sourceIn, jobOf, filledIn}
 use Rattle.fill.proofs.Kept.{keeps-same, keeps-then}
-use Rattle.inorder.specs.Parts.{inPart}
+use Rattle.inorder.specs.Parts.{allFilled, inPart}
 use Rattle.inorder.proofs.Laws.{first-whole}
 use Rattle.inorder.proofs.Writes.{writes-few}
 use Rattle.inorder.proofs.Strands.{Strands, passes, lies-part, keeps-part, end-low, gone-on, one-strand, part-rest, part-turn, part-last}
@@ -30,7 +30,7 @@ record Passing (s0 s : List ℕ) (p : Pair) (filling done : Filling) (start stra
   keeps : Keeps s0 s p
   fine : done .outcome ≡ Accepted
   left : fill (onward (jobOf s0 p) start) (filledIn s p done) (windows (onward (jobOf s0 p) start)) (p .reading .series)
-      ≡ fill (jobOf s0 p) (filledIn s0 p filling) (windows (jobOf s0 p)) (p .reading .series)
+      ≡ allFilled s0 p filling
   counted : Strands (jobOf s0 p) strands start
   few : strands ≤ start
 
@@ -60,7 +60,7 @@ filled c = c .before .before
 -- ---- what is known there
 
 abbrev total : tie.At-loop Inv-loop μ-loop → Filled
-total l = let a = start l .args in let q = jobOf (a .image .now) (a .p) in fill q (filledIn (a .image .now) (a .p) (a .filling)) (windows q) (a .p .reading .series)
+total l = let a = start l .args in allFilled (a .image .now) (a .p) (a .filling)
 
 whole : (l : tie.At-loop Inv-loop μ-loop) → let a = start l .args in Whole (sourceIn (a .image .now) (a .p)) (a .p .reading) (l .before .first-place .result)
 unfolding part

@@ -6,7 +6,7 @@ use Rattle.span.proofs.in_range.Tie as tie
 
 returns : tie.Need-returns
 unfolding inRange
-returns c = rw (le-leb _ _ (c .before .if1 .taken))
+returns c = rw (le-leb _ _ (c .if1 .taken))
 
 returns-2 : tie.Need-returns-2
 unfolding inRange
