@@ -42,4 +42,6 @@ pub trait Side {
     fn consolidate(&mut self) -> u64;
     /// Sets the mark of the pair of tiers 0 and 1, as if a run had ended there.
     fn set_mark(&mut self, mark: u64);
+    /// Writes the stamps of schema 0's tier 0, slot by slot, whatever they are: what no list of calls leaves, too.
+    fn set_stamps(&mut self, stamps: &[u64]);
 }

@@ -35,6 +35,21 @@ fn rings(schemas: u32, tiers: u64) -> Plan {
     Plan { schemas, series: 2, tiers: (0..tiers).map(tier).collect() }
 }
 
+/// Three tiers that are 1 s, 60 s and this.
+fn three_to(last: u64, slots: u64) -> Plan {
+    let mut plan = three(2);
+    plan.tiers[2].interval = last * SECOND;
+    plan.tiers[2].slots = slots;
+    plan
+}
+
+/// Three tiers, the first of so many seconds.
+fn three_from(slots: u64) -> Plan {
+    let mut plan = three(2);
+    plan.tiers[0].slots = slots;
+    plan
+}
+
 /// One ring of so many seconds.
 fn ring_of(slots: u64) -> Plan {
     Plan { schemas: 1, series: 2, tiers: vec![Tier { interval: SECOND, slots, function: 0 }] }
@@ -153,6 +168,55 @@ fn run(name: &'static str, turns: u64, series: u32, slots: u64, new: u64) -> Mea
     }
 }
 
+/// The stamps of a lap, slot by slot.
+fn lap(slots: u64, number: u64) -> Vec<u64> {
+    (0..slots).map(|i| (number * slots + i) * SECOND).collect()
+}
+
+/// One sample was missed: its slot keeps the stamp of the lap before.
+fn one_fall(slots: u64) -> Vec<u64> {
+    let mut stamps = lap(slots, 3);
+    stamps[slots as usize / 2] = lap(slots, 2)[slots as usize / 2];
+    stamps
+}
+
+/// Every second one was missed.
+fn half_missed(slots: u64) -> Vec<u64> {
+    lap(slots, 3).into_iter().zip(lap(slots, 2)).enumerate().map(|(i, (now, then))| if i % 2 == 0 { then } else { now }).collect()
+}
+
+/// Written by hand: the last slot has the newest stamp, and before it stamps fall by `step` seconds a slot.
+fn all_falling(slots: u64, step: u64) -> Vec<u64> {
+    let from = 3 * slots * step;
+    (0..slots).map(|i| if i + 1 == slots { from + slots * step } else { from + (slots - i) * step }).map(|s| s * SECOND).collect()
+}
+
+/// A run over a whole ring of seconds with these stamps, the mark before all of them.
+fn falls(name: &'static str, turns: u64, series: u32, slots: u64, stamps: Vec<u64>) -> Measure {
+    let mut plan = three(series);
+    plan.tiers[0].slots = slots;
+    plan.tiers.truncate(2);
+    let least = *stamps.iter().min().unwrap();
+    let fill = move |side: &mut dyn Side| {
+        side.entries(series);
+        lap(slots, 3).into_iter().for_each(|t| side.batch(t));
+        side.set_stamps(&stamps);
+    };
+    Measure {
+        name,
+        unit: "a run",
+        turns,
+        per_turn: 1,
+        counted: 1,
+        plan,
+        setup: Box::new(fill),
+        before: Some(Box::new(move |side, _| side.set_mark(least))),
+        turn: Box::new(|side, _| {
+            black_box(side.consolidate());
+        }),
+    }
+}
+
 fn measures() -> Vec<Measure> {
     let base = |name, turns, counted, plan, turn: Turn| Measure {
         name,
@@ -204,6 +268,14 @@ fn measures() -> Vec<Measure> {
         }),
         ..base("run, nothing new", 200, 10, three(2), Box::new(idle_run))
     };
+    let many_idle = Measure {
+        unit: "a run",
+        setup: Box::new(|side| {
+            three_hours(side);
+            side.consolidate();
+        }),
+        ..base("run, nothing new, 32 rows", 50, 10, rings(8, 4), Box::new(idle_run))
+    };
     // The hour that holds the mark, 3,600 slots of 64 columns, gathered again by each run: hardly anything else is done.
     let gathering = Measure {
         unit: "a value",
@@ -218,6 +290,11 @@ fn measures() -> Vec<Measure> {
     vec![
         record("record, 1 row", rings(1, 1)),
         record("record, 3 rows", three(2)),
+        record("record, 3 rows, one of weeks", three_to(7 * 86_400, 520)),
+        record("record, 3 rows, one of 80 years", three_to(365 * 86_400, 80)),
+        record("record, 3 rows, a day of seconds", three_from(86_400)),
+        record("record, 3 rows, a month of seconds", three_from(30 * 86_400)),
+        record("record, 4 rows in 2 schemas", rings(2, 2)),
         record("record, 8 rows", rings(2, 4)),
         record("record, 32 rows", rings(8, 4)),
         batch("batch of 2", 200_000, 2),
@@ -246,7 +323,18 @@ fn measures() -> Vec<Measure> {
         run("run after an hour, 64 series", 3, 64, 7200, 3600),
         run("run after an hour, 36,000 slots", 3, 2, 36_000, 3600),
         run("run after an hour, 10^6 slots", 3, 2, 1_000_000, 3600),
+        falls("run, no fall, 36,000 slots", 3, 2, 36_000, lap(36_000, 3)),
+        falls("run, one fall, 3,600 slots", 10, 2, 3600, one_fall(3600)),
+        falls("run, one fall, 36,000 slots", 3, 2, 36_000, one_fall(36_000)),
+        falls("run, one fall, 100,000 slots", 3, 2, 100_000, one_fall(100_000)),
+        falls("run, one fall, 10^6 slots", 1, 2, 1_000_000, one_fall(1_000_000)),
+        falls("run, every second sample missed, 36,000 slots", 3, 2, 36_000, half_missed(36_000)),
+        falls("run, every second sample missed, 64 series", 1, 64, 36_000, half_missed(36_000)),
+        falls("run, all falling, 3,600 slots", 10, 2, 3600, all_falling(3600, 1)),
+        falls("run, all falling, 36,000 slots", 1, 2, 36_000, all_falling(36_000, 1)),
+        falls("run, all falling, a window a slot, 3,600 slots", 1, 2, 3600, all_falling(3600, 60)),
         nothing_new,
+        many_idle,
         gathering,
         base("creation", 50, 10, three(2), Box::new(|side, _| side.create(&three(2)))),
         query("opening", 50, Box::new(|side, _| side.open())),

@@ -169,4 +169,13 @@ impl Side for Ours {
     fn set_mark(&mut self, mark: u64) {
         self.image[80..88].copy_from_slice(&mark.to_le_bytes());
     }
+
+    fn set_stamps(&mut self, stamps: &[u64]) {
+        let series = u32::from_le_bytes(self.image[60..64].try_into().unwrap()) as usize;
+        let slab = u64::from_le_bytes(self.image[64..72].try_into().unwrap()) as usize;
+        let at = slab + 64 + 4 * series;
+        for (slot, stamp) in self.image[at..].chunks_exact_mut(8).zip(stamps) {
+            slot.copy_from_slice(&stamp.to_le_bytes());
+        }
+    }
 }

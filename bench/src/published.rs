@@ -1,6 +1,8 @@
 //! The published Rust with request 2026-01's line altered, on files in memory (/dev/shm).
+use std::fs::OpenOptions;
 use std::hint::black_box;
 use std::mem::take;
+use std::os::unix::fs::FileExt;
 use std::path::PathBuf;
 use std::time::Duration;
 
@@ -119,6 +121,13 @@ impl Side for Published {
         let mut cursors = ConsolidationCursors::default();
         cursors.update_last_processed(0, 0, 1, mark);
         cursors.save(self.dir.join("consolidation_cursors.json")).unwrap();
+    }
+
+    /// By the slab's file, which the store has mapped.
+    fn set_stamps(&mut self, stamps: &[u64]) {
+        let slab = OpenOptions::new().write(true).open(self.dir.join("schema_0").join("tier_0.slab")).unwrap();
+        let bytes: Vec<u8> = stamps.iter().flat_map(|t| t.to_le_bytes()).collect();
+        slab.write_all_at(&bytes, 64 + 4 * self.configs[0].max_series as u64).unwrap();
     }
 }
 
