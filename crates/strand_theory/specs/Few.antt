@@ -15,7 +15,7 @@ use Rattle.model.specs.Window.{Job, windowOf}
 use Rattle.model.specs.Consolidate.{endAfter}
 use Rattle.laws.specs.Tests.{yes-lt, no-lt}
 use Rattle.strand_theory.specs.Cuts.{In, Before, Cut, Cuts, none, more, Homed, lapOf, Laps}
-use Rattle.strand_theory.specs.Passes.{div-mono, window-mono, window-end, window-again, window-step, window-long, passOf, pass-mono, pass-before}
+use Rattle.strand_theory.specs.Passes.{div-mono, window-mono, window-end, window-again, window-step, window-long, passOf, pass-mono, pass-before, Between}
 use Rattle.strand_theory.specs.Passes.{between, before-left, before-right, origin, origin-in, in-ring, ahead, cursor-read}
 
 -- ---- how many of these are below c
@@ -73,7 +73,7 @@ below-less a (x ∷ xs) (inr h) = omega (arith, counted-one a x, below-less a xs
 
 -- ---- cuts ascend, and every second one is charged to a later lap
 
-module _ (q : Job) (ls : List ℕ) (cur : cursor (q .source .slab) < slots (q .source .slab)) (home : Homed (q .source .slab)) (laps : Laps q ls) where
+module _ (q : Job) (ls : List ℕ) (cur : cursor (q .source .slab) < slots (q .source .slab)) (home : Homed (q .source .slab)) where
   abbrev at : ℕ → ℕ
   at i = stamp (q .source .slab) i
 
@@ -83,32 +83,32 @@ module _ (q : Job) (ls : List ℕ) (cur : cursor (q .source .slab) < slots (q .s
   later-pass : {t u : ℕ} → t ≤ u → pass t ≤ pass u
   later-pass h = pass-mono (slots (q .source .slab)) (origin (q .source)) (div-mono (interval (q .source .slab)) h)
 
-  -- a lap of the range from the pass of u on, before that of t
-  record Charged (t u : ℕ) : Type 0 where
-    lap : ℕ
-    one : In lap ls
-    from : pass u ≤ lap
-    under : lap < pass t
+  -- one of these from the pass of u on, before that of t
+  pub record Charged (t u : ℕ) : Type 0 where
+    pub lap : ℕ
+    pub one : In lap ls
+    pub from : pass u ≤ lap
+    pub under : lap < pass t
 
-  charged : (i j : ℕ) → Before i j (order (q .source)) → at j < at i → 0 < at j → q .start ≤ at j → at i < q .end → Charged (at i) (at j)
-  unfolding slotOf lapOf
-  charged i j b less pos lo hi =
+  -- two slots of the range whose stamps fall are charged to one of these
+  abbrev pub Charges : Type 0
+  Charges = (i j : ℕ) → Before i j (order (q .source)) → at j < at i → 0 < at j → q .start ≤ at j → at i < q .end → Charged (at i) (at j)
+
+  pub apart : (i j : ℕ) → Before i j (order (q .source)) → at j < at i → 0 < at j
+      → Between (slots (q .source .slab)) (origin (q .source)) (at i / interval (q .source .slab)) (at j / interval (q .source .slab))
+  unfolding slotOf
+  apart i j b less pos =
       let s = q .source .slab in
       let ini = before-left i j (order (q .source)) b in
       let inj = before-right i j (order (q .source)) b in
       let hi' : at i / interval s % slots s ≡ i = home i (in-ring (q .source) cur i ini) (λ e. omega (arith, e)) in
       let hj' : at j / interval s % slots s ≡ j = home j (in-ring (q .source) cur j inj) (λ e. omega (arith, e)) in
       let a = ahead (q .source) cur i j b in
-      let c = between (slots s) (origin (q .source)) (at i / interval s) (at j / interval s) (omega (arith, cur)) (origin-in (q .source) cur .1)
-      (rw (hi', hj') a) (div-mono (interval s) (omega arith)) in
-      record { lap = c .lap; one = go (c .lap) (c .lap-is) (laps i ini (omega arith) hi) (laps j inj lo (omega arith)); from = c .from; under = c .under }
-    where
-      go : (c : ℕ) → (c ≡ lapOf (q .source .slab) (at i)) ⊎ (c ≡ lapOf (q .source .slab) (at j)) → In (lapOf (q .source .slab) (at i)) ls → In (lapOf (q .source .slab) (at j)) ls → In c ls
-      go c (inl e) x y = subst (λ (z : ℕ). In z ls) (sym e) x
-      go c (inr e) x y = subst (λ (z : ℕ). In z ls) (sym e) y
+      between (slots s) (origin (q .source)) (at i / interval s) (at j / interval s) (omega (arith, cur)) (origin-in (q .source) cur .1)
+      (rw (hi', hj') a) (div-mono (interval s) (omega arith))
 
   -- a cut's stamps fall
-  falls : (b e : ℕ) (c : Cut q (order (q .source)) b e) → at (c .low) < at (c .high)
+  pub falls : (b e : ℕ) (c : Cut q (order (q .source)) b e) → at (c .low) < at (c .high)
   falls b e c = go (decLt (at (c .low)) (at (c .high)))
     where
       go : Dec (at (c .low) < at (c .high)) → at (c .low) < at (c .high)
@@ -119,7 +119,7 @@ module _ (q : Job) (ls : List ℕ) (cur : cursor (q .source .slab) < slots (q .s
 
   -- ---- the cuts of a range whose passes are at most `cap`
 
-  module _ (cap : ℕ) (capped : (t : ℕ) → t < q .end → pass t ≤ cap) where
+  module _ (charge : Charges) (cap : ℕ) (capped : (t : ℕ) → t < q .end → pass t ≤ cap) where
     -- after k cuts, the last at b: the laps that every second of them is charged to are below the pass `prev`, those of the others below `top`; x of the cuts
     -- are not charged
     record Level (x k b : ℕ) : Type 0 where
@@ -181,7 +181,7 @@ module _ (q : Job) (ls : List ℕ) (cur : cursor (q .source .slab) < slots (q .s
 
         go : Dec (0 < t) → Level x (suc k) e
         go (yes pos) =
-            let g = charged (c .high) (c .low) (c .before) (falls b e c) pos (omega (arith, v .started, c .low-from)) (c .high-below) in
+            let g = charge (c .high) (c .low) (c .before) (falls b e c) pos (omega (arith, v .started, c .low-from)) (c .high-below) in
             let p : v .prev ≤ g .lap = omega (arith, v .prev-low, later-pass (c .low-from), g .from) in
             record {
               prev = v .top;
@@ -223,23 +223,16 @@ module _ (q : Job) (ls : List ℕ) (cur : cursor (q .source .slab) < slots (q .s
     begun : {k b : ℕ} → Cuts q k b → q .start ≤ b
     begun cs = level 1 (omega arith) cs .started
 
-  -- ---- any range
-
   abbrev last : ℕ
   last = pass (q .end)
 
   to-end : (t : ℕ) → t < q .end → pass t ≤ last
   to-end t h = later-pass (omega arith)
 
-  -- at most two cuts for each lap, where the range does not start at 0
-  pub few-cuts-from : 0 < q .start → {k b : ℕ} → Cuts q k b → k ≤ 2 * length ls
-  few-cuts-from pos cs = omega (arith, few last to-end 0 (omega arith) cs, below-all last ls)
+  pub few-charged : Charges → (x : ℕ) → 0 < q .start + x → {k b : ℕ} → Cuts q k b → k ≤ x + 2 * length ls
+  few-charged charge x free cs = omega (arith, few charge last to-end x free cs, below-all last ls)
 
-  -- one more where it does, at a slot without a stamp
-  pub few-cuts : {k b : ℕ} → Cuts q k b → k ≤ suc (2 * length ls)
-  few-cuts cs = omega (arith, few last to-end 1 (omega arith) cs, below-all last ls)
-
-  -- ---- a range that ends behind the newest stamp
+  -- ---- the newest stamp
 
   -- a range that is not empty ends behind the stamp t
   ends-behind : (t e : ℕ) → e ≡ endAfter (endOf t) → 0 < e → e ≡ suc t
@@ -247,33 +240,61 @@ module _ (q : Job) (ls : List ℕ) (cur : cursor (q .source .slab) < slots (q .s
   ends-behind zero e h pos = absurd (omega arith)
   ends-behind (suc t) e h pos = h
 
-  module _ (ended : q .end ≡ endAfter (newest (q .source))) where
-    abbrev newestLap : ℕ
-    newestLap = lapOf (q .source .slab) (at (cursor (q .source .slab)))
+  pub last-is : q .end ≡ endAfter (newest (q .source)) → 0 < q .end → q .end ≡ suc (at (cursor (q .source .slab)))
+  unfolding newest
+  last-is ended some = ends-behind (at (cursor (q .source .slab))) (q .end) ended some
 
-    -- the newest stamp's pass is its lap
-    newest-pass : at (cursor (q .source .slab)) ≢ 0 → pass (at (cursor (q .source .slab))) ≡ newestLap
-    unfolding lapOf slotOf
-    newest-pass some =
-        let s = q .source .slab in
-        let o = origin-in (q .source) cur in
-        pass-before (slots s) (origin (q .source)) (omega (arith, cur)) (o .1) (at (cursor s) / interval s) (rw (home (cursor s) cur some) (o .0))
+  abbrev newestLap : ℕ
+  newestLap = lapOf (q .source .slab) (at (cursor (q .source .slab)))
 
-    fewer : (x : ℕ) → 0 < q .start + x → {k b : ℕ} → Cuts q k b → k ≤ x + 2 * (length ls - 1)
-    unfolding newest
-    fewer x free none = omega arith
-    fewer x free (more {k} {b} {e} cs c) =
-        let s = q .source .slab in
-        let fall = falls b e c in
-        let last-is : q .end ≡ suc (at (cursor s)) = ends-behind (at (cursor s)) (q .end) ended (omega (arith, c .high-below)) in
-        let lo : q .start ≤ at (cursor s) = omega (arith, begun last to-end cs, c .low-from, fall, c .high-below, last-is) in
-        let read = cursor-read (q .source) cur (c .high) (before-left (c .high) (c .low) (order (q .source)) (c .before)) in
-        let p = newest-pass (λ z. omega (arith, z, fall, c .high-below, last-is)) in
-        let capped : (t : ℕ) → t < q .end → pass t ≤ newestLap = λ t l. rw (← p) (later-pass (omega (arith, l, last-is))) in
-        omega (arith, few newestLap capped x free (more cs c), below-less newestLap ls (laps (cursor s) read lo (omega (arith, last-is))))
+  -- its pass is its lap
+  pub newest-pass : at (cursor (q .source .slab)) ≢ 0 → pass (at (cursor (q .source .slab))) ≡ newestLap
+  unfolding lapOf slotOf
+  newest-pass some =
+      let s = q .source .slab in
+      let o = origin-in (q .source) cur in
+      pass-before (slots s) (origin (q .source)) (omega (arith, cur)) (o .1) (at (cursor s) / interval s) (rw (home (cursor s) cur some) (o .0))
 
-    pub fewer-cuts-from : 0 < q .start → {k b : ℕ} → Cuts q k b → k ≤ 2 * (length ls - 1)
-    fewer-cuts-from pos cs = omega (arith, fewer 0 (omega arith) cs)
+  -- ---- by the laps of the range
 
-    pub fewer-cuts : {k b : ℕ} → Cuts q k b → k ≤ suc (2 * (length ls - 1))
-    fewer-cuts cs = omega (arith, fewer 1 (omega arith) cs)
+  module _ (laps : Laps q ls) where
+    charged : Charges
+    unfolding lapOf
+    charged i j b less pos lo hi =
+        let c = apart i j b less pos in
+        let ini = before-left i j (order (q .source)) b in
+        let inj = before-right i j (order (q .source)) b in
+        record { lap = c .lap; one = go (c .lap) (c .lap-is) (laps i ini (omega arith) hi) (laps j inj lo (omega arith)); from = c .from; under = c .under }
+      where
+        go : (c : ℕ) → (c ≡ lapOf (q .source .slab) (at i)) ⊎ (c ≡ lapOf (q .source .slab) (at j)) → In (lapOf (q .source .slab) (at i)) ls → In (lapOf (q .source .slab) (at j)) ls → In c ls
+        go c (inl e) x y = subst (λ (z : ℕ). In z ls) (sym e) x
+        go c (inr e) x y = subst (λ (z : ℕ). In z ls) (sym e) y
+
+    -- at most two cuts for each lap, where the range does not start at 0
+    pub few-cuts-from : 0 < q .start → {k b : ℕ} → Cuts q k b → k ≤ 2 * length ls
+    few-cuts-from pos cs = omega (arith, few-charged charged 0 (omega arith) cs)
+
+    -- one more where it does, at a slot without a stamp
+    pub few-cuts : {k b : ℕ} → Cuts q k b → k ≤ suc (2 * length ls)
+    few-cuts cs = omega (arith, few-charged charged 1 (omega arith) cs)
+
+    -- ---- where the range ends behind the newest stamp
+
+    module _ (ended : q .end ≡ endAfter (newest (q .source))) where
+      fewer : (x : ℕ) → 0 < q .start + x → {k b : ℕ} → Cuts q k b → k ≤ x + 2 * (length ls - 1)
+      fewer x free none = omega arith
+      fewer x free (more {k} {b} {e} cs c) =
+          let s = q .source .slab in
+          let fall = falls b e c in
+          let end-is : q .end ≡ suc (at (cursor s)) = last-is ended (omega (arith, c .high-below)) in
+          let lo : q .start ≤ at (cursor s) = omega (arith, begun charged last to-end cs, c .low-from, fall, c .high-below, end-is) in
+          let read = cursor-read (q .source) cur (c .high) (before-left (c .high) (c .low) (order (q .source)) (c .before)) in
+          let p = newest-pass (λ z. omega (arith, z, fall, c .high-below, end-is)) in
+          let capped : (t : ℕ) → t < q .end → pass t ≤ newestLap = λ t l. rw (← p) (later-pass (omega (arith, l, end-is))) in
+          omega (arith, few charged newestLap capped x free (more cs c), below-less newestLap ls (laps (cursor s) read lo (omega (arith, end-is))))
+
+      pub fewer-cuts-from : 0 < q .start → {k b : ℕ} → Cuts q k b → k ≤ 2 * (length ls - 1)
+      fewer-cuts-from pos cs = omega (arith, fewer 0 (omega arith) cs)
+
+      pub fewer-cuts : {k b : ℕ} → Cuts q k b → k ≤ suc (2 * (length ls - 1))
+      fewer-cuts cs = omega (arith, fewer 1 (omega arith) cs)

@@ -1,4 +1,5 @@
 pub mod Cuts
 pub mod Passes
 pub mod Few
+pub mod Short
 pub mod Rows

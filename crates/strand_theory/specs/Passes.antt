@@ -2,11 +2,12 @@
 -- newest stamp's pass is its lap. Where a later stamp is read before an earlier one, its pass is later too, and a lap of one of the two lies between the
 -- passes. Assumes nothing.
 use Prim.Native.Nat.{ℕ, zero, suc, _+_, _-_, _*_, _/_, _%_, _≤_, _<_}
-use native.Mathlib.Nat.{suc-mul, mul-zero, one-mul, div-zero, div-self, mod-lt, mod-self, add-mod-left, mod-eq-of-lt, mod-eq-sub-mod, mod-add-div', mul-le-mul-right, le-div-iff-mul-le, div-mul-le-self, lt-div-mul-add, mul-div-cancel}
+use native.Mathlib.Nat.{suc-mul, zero-mul, mul-zero, one-mul, mul-comm, mul-assoc, add-mul, mul-le-mul-right}
+use native.Mathlib.Nat.{add-mul-mod-self-right, div-zero, div-self, mod-lt, mod-self, add-mod-left, mod-eq-of-lt, mod-eq-sub-mod, mod-add-div', le-div-iff-mul-le, div-mul-le-self, lt-div-mul-add, mul-div-cancel}
 use native.Mathlib.Omega.{arith}
 use native.Mathlib.Decide.{decLt, ℕ-discrete}
 use mathlib.Core.Path.{_≡_, refl, sym, ap, _∙_, subst}
-use mathlib.Core.Logic.{_⊎_, inl, inr}
+use mathlib.Core.Logic.{_⊎_, inl, inr, _≢_}
 use mathlib.Core.Bool.{Bool, true, false, cond}
 use mathlib.Core.List.{List, [], _∷_}
 use Rattle.model.specs.Ring.{Ring, slots, cursor, walk, isEmpty, firstPlace, order}
@@ -137,6 +138,48 @@ between n g x y z hg a le = go (decLt (a .v) n) (decLt (a .u) n)
         let py = pass-before n g z hg y (omega (arith, j, a .last)) in
         record { lap = y / n; lap-is = inr refl; from = omega (arith, py); under = omega (arith, px, less) }
 
+-- ---- how many passes back
+
+-- a slot that is read is that of one of the numbers from g up to the cursor's, n + c. A number there, less than m rounds before one of the cursor's, has a pass less
+-- than m before that one's lap
+pub near-pass : (n g c m x y v : ℕ) → c < g → g ≤ n → x % n ≡ v % n → g ≤ v → v ≤ n + c → y % n ≡ c → y < x + m * n → y / n < passOf n g x + m
+near-pass n g c m x y v hc hg xv lo hi yc less = go (decLt v n) (decLt (y / n) (passOf n g x + m))
+  where
+    z : 0 < n
+    z = omega (arith, hc, hg)
+
+    go : Dec (v < n) → Dec (y / n < passOf n g x + m) → y / n < passOf n g x + m
+    go w (yes h) = h
+    go (yes w) (no h) =
+        let i : x % n ≡ v = xv ∙ near n v w in
+        let p = pass-from n g z hg x (omega (arith, i, lo)) in
+        let l : suc (x / n) + m ≤ y / n = omega (arith, p, h) in
+        absurd (omega (arith, mul-le-mul-right n l, add-mul (suc (x / n)) m n, suc-mul (x / n) n, mod-add-div' x n, mod-add-div' y n, mod-lt x z, less))
+    go (no w) (no h) =
+        let i : x % n ≡ v - n = xv ∙ far n v (omega arith) (omega (arith, hi, hc, hg)) in
+        let p = pass-before n g z hg x (omega (arith, i, hi, hc)) in
+        let l : x / n + m ≤ y / n = omega (arith, p, h) in
+        absurd (omega (arith, mul-le-mul-right n l, add-mul (x / n) m n, mod-add-div' x n, mod-add-div' y n, i, hi, yc, less))
+
+-- a stamp less than m rounds behind another, by their numbers: the numbers lie m rounds apart at most, and fewer where their slots are not the same
+pub near-number : (d n m t u : ℕ) → u < t + m * (d * n) → t < u → t / d % n ≢ u / d % n → u / d < t / d + m * n
+near-number zero n m t u less rise other = absurd (omega (arith, less, rise, zero-mul n, ap (λ (x : ℕ). m * x) (zero-mul n), mul-zero m))
+near-number (suc d) n m t u less rise other = go (ℕ-discrete (u / suc d) (t / suc d + m * n)) (decLt (u / suc d) (suc (t / suc d + m * n)))
+  where
+    z : 0 < suc d
+    z = omega arith
+
+    same : m * (suc d * n) ≡ m * n * suc d
+    same = ap (λ (x : ℕ). m * x) (mul-comm (suc d) n) ∙ sym (mul-assoc m n (suc d))
+
+    go : Dec (u / suc d ≡ t / suc d + m * n) → Dec (u / suc d < suc (t / suc d + m * n)) → u / suc d < t / suc d + m * n
+    go (yes e) w = absurd (other (sym (ap (λ (x : ℕ). x % n) e ∙ add-mul-mod-self-right (t / suc d) m n)))
+    go (no e) (yes h) = omega arith
+    go (no e) (no h) =
+        let l : suc (t / suc d) + m * n ≤ u / suc d = omega arith in
+        let k : t < t / suc d * suc d + suc d = lt-div-mul-add z in
+        absurd (omega (arith, mul-le-mul-right (suc d) l, add-mul (suc (t / suc d)) (m * n) (suc d), suc-mul (t / suc d) (suc d), div-mul-le-self u (suc d), k, same, less))
+
 -- ---- slots in a row, by their numbers
 
 pub before-left : (x y : ℕ) (is : List ℕ) → Before x y is → In x is
@@ -220,6 +263,14 @@ module _ (r : Ring) (cur : cursor (r .slab) < slots (r .slab)) where
       let m = before-slots (slots (r .slab)) i j (origin r) (o .many) (subst (Before i j) (o .order-is) h) in
       let e = o .ends (omega (arith, m .2, m .3, m .4)) in
       record { u = m .0; v = m .1; first = m .2; rising = m .3; last = omega (arith, m .4, e, origin-in .0); i-is = m .5; j-is = m .6 }
+
+  -- a slot that is read is that of a number from `origin` up to the cursor's
+  pub read-at : (i : ℕ) → In i (order r) → (v : ℕ) × (origin r ≤ v) × (v ≤ slots (r .slab) + cursor (r .slab)) × (i ≡ v % slots (r .slab))
+  read-at i h =
+      let o = numbered r in
+      let m = in-slots (slots (r .slab)) i (origin r) (o .many) (subst (In i) (o .order-is) h) in
+      let e = o .ends (omega (arith, m .1, m .2)) in
+      (m .0, m .1, omega (arith, m .2, e), m .3)
 
   -- where a slot is read, the cursor's is
   pub cursor-read : (i : ℕ) → In i (order r) → In (cursor (r .slab)) (order r)

@@ -123,20 +123,13 @@ RunsReadFew =
 
 -- ---- the proof
 
-module _ (l : Lent) (a : AllHome l) (i : ℕ) (hi : i < rowCount (l .image)) (f : ConsolidationFn) (ls : List ℕ) (laps : Laps (jobOf l i f) ls) where
-  cursor-in : cursor (ring l i .slab) < slots (ring l i .slab)
-  cursor-in = let s = slab-of l (a .good) i hi in rw (s .slots-is) (s .cursor-in)
-
-  few-later : 0 < jobOf l i f .start → {k b : ℕ} → Cuts (jobOf l i f) k b → k ≤ 2 * (length ls - 1)
-  unfolding jobOf
-  few-later pos cs = fewer-cuts-from (jobOf l i f) ls cursor-in (a .rings i hi) laps refl pos cs
-
-  few-any : {k b : ℕ} → Cuts (jobOf l i f) k b → k ≤ suc (2 * (length ls - 1))
-  unfolding jobOf
-  few-any cs = fewer-cuts (jobOf l i f) ls cursor-in (a .rings i hi) laps refl cs
-
+module _ (l : Lent) (i : ℕ) (f : ConsolidationFn) where
   -- a cut has a stamp above 0, and windows that have a length
-  behind-zero : {b e : ℕ} → Cut (jobOf l i f) (order (jobOf l i f .source)) b e → (0 < row l i .mark → row l (suc i) .interval ≤ row l i .mark) → 0 < jobOf l i f .start
+  pub long-cut : {b e : ℕ} → Cut (jobOf l i f) (order (jobOf l i f .source)) b e → 0 < row l (suc i) .interval
+  unfolding jobOf
+  long-cut {b} {e} c = window-long (row l (suc i) .interval) (stamp (ring l i .slab) (c .high)) (rw (c .high-is) (omega (arith, c .low-under)))
+
+  pub behind-zero : {b e : ℕ} → Cut (jobOf l i f) (order (jobOf l i f .source)) b e → (0 < row l i .mark → row l (suc i) .interval ≤ row l i .mark) → 0 < jobOf l i f .start
   unfolding jobOf
   behind-zero {b} {e} c late =
       let r = ring l i in
@@ -145,9 +138,21 @@ module _ (l : Lent) (a : AllHome l) (i : ℕ) (hi : i < rowCount (l .image)) (f 
       starts (row l i .mark) d r (c .high) (before-left (c .high) (c .low) (order r) (c .before)) (omega (arith, w, window-below d (stamp (r .slab) (c .high))))
       (window-long d (stamp (r .slab) (c .high)) w) late
 
+pub cursor-in : (l : Lent) → AllHome l → (i : ℕ) → i < rowCount (l .image) → cursor (ring l i .slab) < slots (ring l i .slab)
+cursor-in l a i hi = let s = slab-of l (a .good) i hi in rw (s .slots-is) (s .cursor-in)
+
+module _ (l : Lent) (a : AllHome l) (i : ℕ) (hi : i < rowCount (l .image)) (f : ConsolidationFn) (ls : List ℕ) (laps : Laps (jobOf l i f) ls) where
+  few-later : 0 < jobOf l i f .start → {k b : ℕ} → Cuts (jobOf l i f) k b → k ≤ 2 * (length ls - 1)
+  unfolding jobOf
+  few-later pos cs = fewer-cuts-from (jobOf l i f) ls (cursor-in l a i hi) (a .rings i hi) laps refl pos cs
+
+  few-any : {k b : ℕ} → Cuts (jobOf l i f) k b → k ≤ suc (2 * (length ls - 1))
+  unfolding jobOf
+  few-any cs = fewer-cuts (jobOf l i f) ls (cursor-in l a i hi) (a .rings i hi) laps refl cs
+
   few-marked : (0 < row l i .mark → row l (suc i) .interval ≤ row l i .mark) → {k b : ℕ} → Cuts (jobOf l i f) k b → k ≤ 2 * (length ls - 1)
   few-marked late none = omega arith
-  few-marked late (more cs c) = few-later (behind-zero c late) (more cs c)
+  few-marked late (more cs c) = few-later (behind-zero l i f c late) (more cs c)
 
 pub few-passes : (l : Lent) → AllHome l → (i : ℕ) → i < rowCount (l .image) → FewPasses l i
 unfolding FewPasses
@@ -157,10 +162,13 @@ pub home-midway : (l : Lent) → AllHome l → (i : ℕ) → suc i < rowCount (l
 unfolding midway
 home-midway l a i hi = all-pairs Home home-write home-opened i 0 (begin l) a (omega arith)
 
+-- a row of the store is one of the run's
+pub midway-row : (l : Lent) → AllHome l → (i : ℕ) → suc i < rowCount (l .image) → i < rowCount (midway l i .lent .image)
+unfolding midway
+midway-row l a i hi =
+    let s = stays-pairs (begin l) 0 i (a .good) (omega arith) in
+    rw (count-kept (pairs (begin l) 0 i .lent .image) (l .image) (s .image-is)) (omega arith)
+
 pub proof : RunsReadFew
 unfolding RunsReadFew
-proof h ok e i hi =
-    let l = left h in
-    let a = home-left h ok e in
-    let s = stays-pairs (begin l) 0 i (a .good) (omega arith) in
-    few-passes (midway l i .lent) (home-midway l a i hi) i (unfold midway in (rw (count-kept (pairs (begin l) 0 i .lent .image) (l .image) (s .image-is)) (omega arith)))
+proof h ok e i hi = let a = home-left h ok e in few-passes (midway (left h) i .lent) (home-midway (left h) a i hi) i (midway-row (left h) a i hi)
