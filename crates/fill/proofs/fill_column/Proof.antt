@@ -7,6 +7,13 @@ use borrow.Author.Needs.{needs}
 use Rattle.fill.proofs.fill_column.Statement.{statement}
 use Rattle.fill.proofs.fill_column.Tie as tie
 
+-- where the function begins, and where the answer is known
+abbrev start : tie.After-answer-arg → tie.Start
+start c = c .before .before .before .before
+
+abbrev answered : tie.After-write-answer-arg → tie.After-answer
+answered c = c .before .before
+
 sub-answer : tie.Need-sub-answer
 sub-answer c = search needs
 
@@ -14,31 +21,45 @@ part-answer-start : tie.Need-part-answer-start
 part-answer-start c = c .before .before .before .pre .0 .0 .source-forth
 
 part-answer-end : tie.Need-part-answer-end
-part-answer-end c = omega (arith, c .before .before .before .pre .0 .0 .apart, c .before .before .before .pre .0 .0 .dest-forth, c .before .before .before .pre .0 .0 .inside)
+part-answer-end c = let l = c .before .before .before .pre .0 .0 in omega (arith, l .apart, l .dest-forth, l .inside)
 
 answer-requires : tie.Need-answer-requires
 unfolding part
-answer-requires c κs = (c .before .before .before .before .pre .0 .0 .readable, record { slot-in = c .before .before .before .before .pre .0 .1 .slot-in; few-left = c .before .before .before .before .pre .0 .1 .few-left; column-in = c .before .before .before .before .pre .1 .0; starts = c .before .before .before .before .pre .0 .1 .starts })
+answer-requires c κs =
+    let p = start c .pre in
+    (p .0 .0 .readable, record { slot-in = p .0 .1 .slot-in; few-left = p .0 .1 .few-left; column-in = p .1 .0; starts = p .0 .1 .starts })
 
 sub-write-answer : tie.Need-sub-write-answer
 sub-write-answer c = search needs
 
 part-write-answer-start : tie.Need-part-write-answer-start
-part-write-answer-start c = c .before .before .before .before .before .before .pre .0 .0 .dest-forth
+part-write-answer-start c = start (c .before .before) .pre .0 .0 .dest-forth
 
 part-write-answer-end : tie.Need-part-write-answer-end
-part-write-answer-end c = c .before .before .before .before .before .before .pre .0 .0 .inside
+part-write-answer-end c = start (c .before .before) .pre .0 .0 .inside
 
 write-answer-requires : tie.Need-write-answer-requires
 unfolding part
-write-answer-requires c κs = (record { sound = c .before .before .before .before .before .before .before .pre .0 .0 .sound; some-interval = c .before .before .before .before .before .before .before .pre .0 .0 .some-interval; column-in = omega (arith, c .before .before .before .before .before .before .before .pre .0 .0 .same-series, c .before .before .before .before .before .before .before .pre .1 .0); few-writes = c .before .before .before .before .before .before .before .pre .1 .1 }, c .before .before .answer .ensures .1)
+write-answer-requires c κs =
+    let p = start (answered c .before) .pre in
+    let l = p .0 .0 in (
+      record { sound = l .sound; some-interval = l .some-interval; column-in = omega (arith, l .same-series, p .1 .0); few-writes = p .1 .1 },
+      answered c .answer .ensures .1,
+    )
 
 same-length : tie.Need-same-length
 same-length c = search needs
 
 returns : tie.Need-returns
 unfolding part
-returns c = let a = c .before .before .before .before .before .before .before .before .before .before .args in let w = c .before .before .write-answer in let k = column-filled (a .image .now) (a .p) (c .before .before .before .before .before .before .before .before .before .before .pre .0 .0) (w .last .0) (search needs) (a .filling) (w .result) (a .window) (a .column) (c .before .before .before .before .before .answer .ensures .0 ∙ sym (c .before .before .before .before .before .before .before .before .before .before .pre .0 .1 .same (a .column))) (w .ensures .0) (w .ensures .1 .0) in (k .0, (k .1, w .ensures .1 .1))
+returns c =
+    let w = c .before .before .write-answer in
+    let x = answered (c .before .before .before) in
+    let a = start (x .before) .args in
+    let p = start (x .before) .pre in
+    let k = column-filled (a .image .now) (a .p) (p .0 .0) (w .last .0) (search needs) (a .filling) (w .result) (a .window) (a .column)
+    (x .answer .ensures .0 ∙ sym (p .0 .1 .same (a .column))) (w .ensures .0) (w .ensures .1 .0) in
+    (k .0, (k .1, w .ensures .1 .1))
 
 pub fill-column-spec : {M : Type 1} → statement M
 fill-column-spec =
