@@ -4,8 +4,7 @@ use Prim.Native.Nat.{ℕ, zero, suc, _+_, _≤_, _<_}
 use native.Mathlib.Omega.{arith}
 use native.Mathlib.Decide.{decLt}
 use mathlib.Core.Path.{_≡_, refl, sym, ap, _∙_, subst}
-use mathlib.Core.Logic.{_⊎_, inl, inr}
-use mathlib.Core.Bool.{Bool, true, false, _&&_, cond}
+use mathlib.Core.Bool.{Bool, true, false, cond, and-false}
 use mathlib.Core.List.{List, [], _∷_, _++_}
 use lib.ListN.{length}
 use lib.Dec.{leb, ltb}
@@ -18,7 +17,7 @@ use Rattle.laws.specs.Tests.{yes-le, yes-lt, no-le, no-lt}
 use Rattle.window.specs.Starts.{window-le, window-mono}
 use Rattle.window.proofs.Laws.{before-start, past-end, other-window}
 use Rattle.search.specs.Found.{found}
-use Rattle.search.specs.Every.{one, many, many-length, passed}
+use Rattle.search.specs.Every.{one, many, many-length, next-no, fewer}
 
 -- ---- turns that are never used
 
@@ -39,25 +38,18 @@ module _ (q : Job) (z : 0 < q .long) where
   abbrev is : List ℕ
   is = order (q .source)
 
-  fewer : (a w : ℕ) → nextWindow q a ≡ At w → many q (suc w) is < many q a is
-  fewer a w f = of (passed q a w (found q z a f .0) is Missing (unfold nextWindow in f))
-    where
-      of : (Missing ≡ At w) ⊎ (many q (suc w) is < many q a is) → many q (suc w) is < many q a is
-      of (inl e) = let x : _≡_ {A = ℕ} 0 1 = cc in absurd (omega arith)
-      of (inr k) = k
-
   spare : (k a : ℕ) → many q a is ≤ k → windowsFrom q (suc k) (nextWindow q a) ≡ windowsFrom q k (nextWindow q a)
   spare zero a l = go (nextWindow q a) refl
     where
       go : (e : End) → nextWindow q a ≡ e → windowsFrom q 1 e ≡ windowsFrom q 0 e
       go Missing f = none-found q 1 ∙ sym (none-found q 0)
-      go (At w) f = absurd (omega (arith, fewer a w f))
+      go (At w) f = absurd (omega (arith, fewer q z a w f))
   spare (suc k) a l = go (nextWindow q a) refl (spare k)
     where
       go : (e : End) → nextWindow q a ≡ e → ((c : ℕ) → many q c is ≤ k → windowsFrom q (suc k) (nextWindow q c) ≡ windowsFrom q k (nextWindow q c))
           → windowsFrom q (suc (suc k)) e ≡ windowsFrom q (suc k) e
       go Missing f ih = none-found q (suc (suc k)) ∙ sym (none-found q (suc k))
-      go (At w) f ih = unfold windowsFrom in ap (λ (ws : List ℕ). w ∷ ws) (ih (suc w) (omega (arith, fewer a w f)))
+      go (At w) f ih = unfold windowsFrom in ap (λ (ws : List ℕ). w ∷ ws) (ih (suc w) (omega (arith, fewer q z a w f)))
 
 -- ---- the cut
 
@@ -94,11 +86,7 @@ module _ (q : Job) (z : 0 < q .long) (b : ℕ) (edge : windowOf (q .long) b ≡ 
 
   second-part : (a t : ℕ) → b ≤ t → (isNext q a t ≡ isNext late a t) × (isNext early a t ≡ false)
   unfolding isNext
-  second-part a t h = (rw (yes-le (q .start) t (omega arith), yes-le b t h), rw (no-lt t b h) (off (leb (q .start) t)))
-    where
-      off : (x : Bool) → (x && false && leb a (windowOf (q .long) t)) ≡ false
-      off true = refl
-      off false = refl
+  second-part a t h = (rw (yes-le (q .start) t (omega arith), yes-le b t h), rw (no-lt t b h, and-false (leb (q .start) t)))
 
   abbrev Low : End → Type 0
   Low Missing = Unit {0}
@@ -225,12 +213,7 @@ module _ (q : Job) (z : 0 < q .long) (b : ℕ) (edge : windowOf (q .long) b ≡ 
   none-low a h (i ∷ js) e = rw (out (decLt (stampOf i) b)) (none-low a h js e)
     where
       out : Dec (stampOf i < b) → isNext early a (stampOf i) ≡ false
-      out (yes l) = unfold isNext in rw (no-le a (win (stampOf i)) (omega (arith, win-low (stampOf i) l))) (twice (leb (q .start) (stampOf i)) (ltb (stampOf i) b))
-        where
-          twice : (x y : Bool) → (x && y && false) ≡ false
-          twice true true = refl
-          twice true false = refl
-          twice false y = refl
+      out (yes l) = next-no early a (stampOf i) (omega (arith, win-low (stampOf i) l))
       out (no l) = second-part a (stampOf i) (omega arith) .1
 
   -- the second part has no more slots from a bound on than the whole

@@ -1,11 +1,11 @@
--- The windows of a source ascend, none twice, and the search loses none: the window of every stamp in the range is among `windows`, whatever the order of the stamps. So as many turns as there are
--- slots never cut the search short. Assumes nothing.
+-- The windows of a source ascend, none twice, and the search loses none: the window of every stamp in the range is among `windows`, whatever the order of the
+-- stamps. So as many turns as there are slots never cut the search short. Assumes nothing.
 use Prim.Native.Nat.{ℕ, zero, suc, _+_, _≤_, _<_}
 use native.Mathlib.Omega.{arith}
 use native.Mathlib.Decide.{decLt}
 use mathlib.Core.Path.{_≡_, refl, sym, _∙_, subst}
 use mathlib.Core.Logic.{_⊎_, inl, inr}
-use mathlib.Core.Bool.{Bool, true, false, _&&_, cond, false≢true}
+use mathlib.Core.Bool.{Bool, true, false, _&&_, cond, and-false, false≢true}
 use mathlib.Core.List.{List, [], _∷_}
 use lib.ListN.{length}
 use lib.Dec.{leb, ltb}
@@ -110,13 +110,9 @@ module _ (q : Job) where
   unfolding isNext
   next-yes b t h k = rw (h, yes-le b (windowOf (q .long) t) k)
 
-  next-no : (b t : ℕ) → windowOf (q .long) t < b → isNext q b t ≡ false
+  pub next-no : (b t : ℕ) → windowOf (q .long) t < b → isNext q b t ≡ false
   unfolding isNext
-  next-no b t h = rw (no-le b (windowOf (q .long) t) h) (go (leb (q .start) t && ltb t (q .end)))
-    where
-      go : (a : Bool) → (a && false) ≡ false
-      go true = refl
-      go false = refl
+  next-no b t h = rw (no-le b (windowOf (q .long) t) h) (and-false (leb (q .start) t && ltb t (q .end)))
 
   -- a higher bound
   one-less : (b c : ℕ) → b ≤ c → (t : ℕ) → one (isNext q c t) ≤ one (isNext q b t)
@@ -133,7 +129,7 @@ module _ (q : Job) where
   many-less b c h (i ∷ is) = omega (arith, one-less b c h (stampOf i), many-less b c h is)
 
   -- the least was there before, or one of these slots has it
-  pub passed : (b w : ℕ) → b ≤ w → (is : List ℕ) (e : End) → leastFrom q b e is ≡ At w → (e ≡ At w) ⊎ (many (suc w) is < many b is)
+  passed : (b w : ℕ) → b ≤ w → (is : List ℕ) (e : End) → leastFrom q b e is ≡ At w → (e ≡ At w) ⊎ (many (suc w) is < many b is)
   unfolding leastFrom many
   passed b w h [] e f = inl f
   passed b w h (i ∷ is) e f = go (isNext q b (stampOf i)) refl (passed b w h is (lowerIf (isNext q b (stampOf i)) e (windowAt i)) f)
@@ -167,6 +163,13 @@ module _ (q : Job) where
   -- ---- every window is found, with one turn for each slot from the bound on
 
   module _ (z : 0 < q .long) where
+    pub fewer : (b w : ℕ) → nextWindow q b ≡ At w → many (suc w) (order (q .source)) < many b (order (q .source))
+    fewer b w f = of (passed b w (found q z b f .0) (order (q .source)) Missing (unfold nextWindow in f))
+      where
+        of : (Missing ≡ At w) ⊎ (many (suc w) (order (q .source)) < many b (order (q .source))) → many (suc w) (order (q .source)) < many b (order (q .source))
+        of (inl e) = let x : _≡_ {A = ℕ} 0 1 = cc in absurd (omega arith)
+        of (inr k) = k
+
     all-found : (k b i : ℕ) → many b (order (q .source)) ≤ k → Among i (order (q .source)) → isNext q b (stampOf i) ≡ true
         → Among (windowAt i) (windowsFrom q k (nextWindow q b))
     all-found zero b i l a h = absurd (omega (arith, many-some b i h (order (q .source)) a))
@@ -184,16 +187,9 @@ module _ (q : Job) where
             low : w ≤ windowAt i
             low = subst (λ (e : End). Upto e (windowAt i)) f up
 
-            fewer : many (suc w) (order (q .source)) < many b (order (q .source))
-            fewer = of (passed b w (found q z b f .0) (order (q .source)) Missing (unfold nextWindow in f))
-              where
-                of : (Missing ≡ At w) ⊎ (many (suc w) (order (q .source)) < many b (order (q .source))) → many (suc w) (order (q .source)) < many b (order (q .source))
-                of (inl e) = let x : _≡_ {A = ℕ} 0 1 = cc in absurd (omega arith)
-                of (inr k) = k
-
             turn : Dec (w < windowAt i) → Among (windowAt i) (windowsFrom q (suc k) (At w))
             turn (no n) = unfold windowsFrom in inl (omega (arith, low))
-            turn (yes n) = unfold windowsFrom in inr (ih w (omega (arith, fewer)) (next-yes (suc w) (stampOf i) (next-is b (stampOf i) h .0) n))
+            turn (yes n) = unfold windowsFrom in inr (ih w (omega (arith, fewer b w f)) (next-yes (suc w) (stampOf i) (next-is b (stampOf i) h .0) n))
 
     -- the window of every stamp in the range
     pub every : length (order (q .source)) ≤ slots (q .source .slab) → (i : ℕ) → Among i (order (q .source)) → q .start ≤ stampOf i → stampOf i < q .end

@@ -4,7 +4,7 @@ use native.Mathlib.Nat.{mod-eq-of-lt, add-mod-right, mod-lt, suc-mod, add-zero, 
 use native.Mathlib.Omega.{arith}
 use native.Mathlib.Decide.{decLt}
 use mathlib.Core.Path.{_≡_, refl, sym, ap, _∙_, subst}
-use mathlib.Core.Bool.{Bool, true, false, _&&_, cond, false≢true}
+use mathlib.Core.Bool.{Bool, true, false, cond, and-false, false≢true}
 use mathlib.Core.List.{List, [], _∷_, _++_, append-assoc, append-nil}
 use lib.Dec.{leb}
 use Rattle.model.specs.declared.Place.{Place}
@@ -159,11 +159,7 @@ module _ (start long end low : ℕ) (p : Place) (t : ℕ) (here : Place) where
   early-met h = out-met (unfold inRange in rw (no-le start t h))
 
   pub late-met : end ≤ t → Meets start long end low p t here end low p
-  late-met h = out-met (unfold inRange in rw (no-lt t end h) (off (leb start t)))
-    where
-      off : (x : Bool) → (x && false) ≡ false
-      off true = refl
-      off false = refl
+  late-met h = out-met (unfold inRange in rw (no-lt t end h) (and-false (leb start t)))
 
   module _ (h : start ≤ t) (k : t < end) where
     inn : inRange start end t ≡ true
