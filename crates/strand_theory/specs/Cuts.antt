@@ -16,7 +16,7 @@ abbrev pub Before : ℕ → ℕ → List ℕ → Type 0
 Before x y [] = ⊥
 Before x y (z ∷ zs) = ((x ≡ z) × In y zs) ⊎ Before x y zs
 
--- these slots, read from the stamp `start` on, are cut at e: a slot of the window e is read before a slot of a lower window
+-- these slots, read from the stamp `start` on, are cut at e: a slot of the window e, its stamp below the range's end, is read before a slot of a lower window
 pub record Cut (q : Job) (is : List ℕ) (start e : ℕ) : Type 0 where
   pub high : ℕ
   pub low : ℕ
@@ -31,7 +31,7 @@ pub data Cuts (q : Job) : ℕ → ℕ → Type 0 where
   none : Cuts q 0 (q .start)
   more : {k b e : ℕ} → Cuts q k b → Cut q (order (q .source)) b e → Cuts q (suc k) e
 
--- n passes over the source: no more than one, and one for each of some cuts
+-- n parts of the source, each looked for in one pass over the stamps: no more than one, and one for each of some cuts
 pub record Passes (q : Job) (n : ℕ) : Type 0 where
   pub cuts : ℕ
   pub last : ℕ

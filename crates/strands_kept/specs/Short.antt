@@ -1,5 +1,5 @@
--- How often a run reads a source, by how long the range is. A range no longer than the ring holds, interval × slots, is read in one pass; one no longer than two
--- rings in three; one no longer than m in 2 m - 1; one more where the mark lies in the first window of all time. However many samples were missed or came late:
+-- How often a run begins anew in a source, by how long the range is. A range no longer than the ring holds, interval × slots, is read in one part; one no longer
+-- than two rings in three; one no longer than m in 2 m - 1; one more where the mark lies in the first window of all time. However many samples were missed or came late:
 -- for every list of calls from creation on, and for each pair of a run, whose source the pair before may just have written. Assumes nothing.
 use Prim.Native.Nat.{ℕ, zero, suc, _+_, _-_, _*_, _≤_, _<_}
 use native.Mathlib.Nat.{one-mul}
@@ -33,13 +33,13 @@ pub record Short (l : Lent) (i k : ℕ) : Type 0 where
   pub at-most : (m : ℕ) → Within l i m → k ≤ suc (2 * (m - 1))
   -- with no mark, or one behind the first window
   pub at-most-marked : (0 < row l i .mark → row l (suc i) .interval ≤ row l i .mark) → (m : ℕ) → Within l i m → k ≤ 2 * (m - 1)
-  -- one pass is enough with no mark, where the newest stamp u is less than a ring behind the oldest t
+  -- one part is enough with no mark, where the newest stamp u is less than a ring behind the oldest t
   pub once-unmarked : row l i .mark ≡ 0 → (t u : ℕ) → oldest (ring l i) ≡ At t → newest (ring l i) ≡ At u → u < t + span l i → k ≡ 0
   -- and with a mark, where u lies behind it by no more than a ring less a window
   pub once-marked : row l (suc i) .interval ≤ row l i .mark → (u : ℕ) → newest (ring l i) ≡ At u → u + row l (suc i) .interval ≤ row l i .mark + span l i → k ≡ 0
 
--- For every plan that creation accepts, every list of calls from there on, refused ones and openings among them, whatever they record and in whatever order: in a
--- run behind them, each pair's source is cut so often at most.
+-- For every plan that creation accepts, every list of calls from there on, refused ones and openings among them, whatever they record and in whatever order, that
+-- leaves an image which passes opening's check: in a run behind them, the source of each row but the last is cut so often at most.
 unfoldable pub RunsReadShort : Type 0
 RunsReadShort =
     (h : History) → createCheck (h .plan) (h .buf) ≡ 0 → openCheck (left h .image) ≡ 0 → (i : ℕ) → suc i < rowCount (left h .image)

@@ -1,7 +1,7 @@
 -- How often a run has to begin anew in a source. However many samples were missed or came late: with L laps of the ring in the range that is read, the reading
--- is cut at most 2 (L - 1) times, so 2 L - 1 passes over the source are enough; one more where the mark lies in the first window of all time, the range starts at 0
--- and a slot was never written. For every list of calls from creation on, and for each pair of a run, whose source the pair before may just have written.
--- Assumes nothing.
+-- is cut at most 2 (L - 1) times, so it is done in at most 2 L - 1 parts, each of which is looked for in one pass over the stamps and then filled; one more where
+-- the mark lies in the first window of all time, the range starts at 0 and a slot was never written. For every list of calls from creation on, and for each pair
+-- of a run, whose source the pair before may just have written. Assumes nothing.
 use Prim.Native.Nat.{ℕ, zero, suc, _+_, _-_, _*_, _^_, _≤_, _<_}
 use native.Mathlib.Nat.{zero-add, add-zero}
 use native.Mathlib.Omega.{arith}
@@ -22,7 +22,7 @@ use Rattle.frame.specs.Pairs.{stays-pairs}
 use Rattle.frame.specs.Calls.{verdict-after}
 use Rattle.fresh.specs.Creation.{low-open, good-created, created-like, created-flags, created-blank}
 use Rattle.reopened.specs.Each.{Each, slab-of, all-pairs, each-after}
-use Rattle.strand_theory.specs.Cuts.{In, Cut, Cuts, none, more, Laps}
+use Rattle.strand_theory.specs.Cuts.{In, Cut, Cuts, none, more, Passes, Laps}
 use Rattle.strand_theory.specs.Passes.{window-mono, window-self, window-below, window-long, before-left}
 use Rattle.strand_theory.specs.Few.{fewer-cuts-from, fewer-cuts}
 use Rattle.strands_kept.specs.Home.{Home, home-blank, home-write, home-opened}
@@ -106,7 +106,7 @@ starts (suc k) long r i m h z late = omega (arith, window-mono long (late (omega
 
 -- ---- the claim
 
--- with the laps ls in the range, the source of the rows i and i + 1 is cut k times: at most so often; and so often with no mark, or one behind the first window
+-- with the laps ls in the range, the source of the rows i and i + 1 is cut k times: at most so often; one time less with no mark, or one behind the first window
 pub record Few (l : Lent) (i : ℕ) (ls : List ℕ) (k : ℕ) : Type 0 where
   pub at-most : k ≤ suc (2 * (length ls - 1))
   pub at-most-marked : (0 < row l i .mark → row l (suc i) .interval ≤ row l i .mark) → k ≤ 2 * (length ls - 1)
@@ -114,8 +114,8 @@ pub record Few (l : Lent) (i : ℕ) (ls : List ℕ) (k : ℕ) : Type 0 where
 unfoldable pub FewPasses : Lent → ℕ → Type 0
 FewPasses l i = (f : ConsolidationFn) (ls : List ℕ) → Laps (jobOf l i f) ls → (k b : ℕ) → Cuts (jobOf l i f) k b → Few l i ls k
 
--- For every plan that creation accepts, every list of calls from there on, refused ones and openings among them, whatever they record and in whatever order: in a
--- run behind them, each pair's source is cut so often at most.
+-- For every plan that creation accepts, every list of calls from there on, refused ones and openings among them, whatever they record and in whatever order, that
+-- leaves an image which passes opening's check: in a run behind them, the source of each row but the last is cut so often at most.
 unfoldable pub RunsReadFew : Type 0
 RunsReadFew =
     (h : History) → createCheck (h .plan) (h .buf) ≡ 0 → openCheck (left h .image) ≡ 0 → (i : ℕ) → suc i < rowCount (left h .image)
@@ -157,6 +157,11 @@ module _ (l : Lent) (a : AllHome l) (i : ℕ) (hi : i < rowCount (l .image)) (f 
 pub few-passes : (l : Lent) → AllHome l → (i : ℕ) → i < rowCount (l .image) → FewPasses l i
 unfolding FewPasses
 few-passes l a i hi f ls laps k b cs = record { at-most = few-any l a i hi f ls laps cs; at-most-marked = λ late. few-marked l a i hi f ls laps late cs }
+
+-- the parts that `inorder::fill_pair` counts and hands back (`Passes`; its job is this one, by `PairAt` of `pair`)
+pub passes-few : (l : Lent) → AllHome l → (i : ℕ) → i < rowCount (l .image) → (f : ConsolidationFn) (ls : List ℕ) → Laps (jobOf l i f) ls → {n : ℕ} → Passes (jobOf l i f) n
+    → (0 < row l i .mark → row l (suc i) .interval ≤ row l i .mark) → n ≤ suc (2 * (length ls - 1))
+passes-few l a i hi f ls laps p late = omega (arith, p .few, few-marked l a i hi f ls laps late (p .cut))
 
 pub home-midway : (l : Lent) → AllHome l → (i : ℕ) → suc i < rowCount (l .image) → AllHome (midway l i .lent)
 unfolding midway
