@@ -9,7 +9,7 @@ use Rattle.laws.specs.Tests.{eq-is}
 use Rattle.quick.specs.declared.Shared.{Shared}
 use Rattle.quick.specs.Seen.{Known, good-is, Only, NextTier, only-first, only-ends, Here, JoinsTo, joins-none, joins-more, Placed, placed-none, placed-more, All, all-are}
 use Rattle.quick.proofs.Laws.{len-is}
-use Prim.Native.Nat.{ℕ, _+_, _-_, _*_, _^_, _<_, _≤_}
+use Prim.Native.Nat.{ℕ, _+_, _-_, _^_, _<_, _≤_}
 use borrow.Author.Needs.{needs}
 use borrow.Author.Tests.{not-false}
 use Rattle.quick.proofs.few_good.Statement.{statement}

@@ -1,6 +1,5 @@
 -- `quick::place_good` meets its contract: the tests that were passed are the facts. Assumes nothing.
 use mathlib.Core.Bool.{false≢true}
-use native.Mathlib.Omega.{arith}
 use Rattle.quick.proofs.Laws.{here-is}
 use borrow.Author.Needs.{needs}
 use Rattle.quick.proofs.place_good.Statement.{statement}

@@ -7,7 +7,7 @@ use Rattle.laws.specs.Tests.{and-left, and-right, eq-is}
 use Rattle.quick.specs.declared.Shared.{Shared}
 use Rattle.quick.specs.Seen.{Known, good-is, Joined, Early, Here, JoinsTo, joins-none, joins-more, early-first, early-more, Placed, placed-none, placed-more, All, all-are}
 use Rattle.quick.proofs.Laws.{len-is}
-use Prim.Native.Nat.{ℕ, _+_, _-_, _*_, _<_, _≤_}
+use Prim.Native.Nat.{ℕ, _+_, _-_, _<_, _≤_}
 use mathlib.Core.List.{List}
 use borrow.Author.Needs.{needs}
 use Rattle.quick.proofs.rows_good.Statement.{statement}

@@ -1,7 +1,6 @@
 -- `quick::slab_good` meets its contract: the tests that were passed are the facts. Assumes nothing.
 use mathlib.Core.Bool.{false≢true}
 use native.Mathlib.Omega.{arith}
-use mathlib.Core.Path.{_≡_, refl, sym, _∙_}
 use native.Mathlib.Nat.{mul-le-mul-right}
 use Rattle.quick.proofs.Laws.{slab-is}
 use Prim.Native.Nat.{_+_, _*_, _≤_}

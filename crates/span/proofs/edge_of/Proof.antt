@@ -1,7 +1,7 @@
 -- `span::edge_of` meets its contract: what was met is the part of the slots behind; at the end these are all. Assumes nothing.
-use Prim.Native.Nat.{ℕ, _+_, _-_, _%_, _≤_, _<_}
+use Prim.Native.Nat.{ℕ, _+_, _-_, _%_, _≤_}
 use native.Mathlib.Omega.{arith}
-use mathlib.Core.Path.{_≡_, refl, sym, subst}
+use mathlib.Core.Path.{sym, subst}
 use mathlib.Core.List.{List}
 use Rattle.model.specs.declared.Place.{Place}
 use Rattle.model.specs.Ring.{walk}
@@ -11,7 +11,6 @@ use Rattle.window.specs.Parts.{jobIn}
 use Rattle.search.specs.Cut.{onward}
 use Rattle.span.specs.Strand.{Edged, Meets}
 use Rattle.span.proofs.Laws.{placeAt, early-met, late-met, lower-met, above-met, same-met, none-walk, met-more, met-all}
-use borrow.Author.Needs.{needs}
 use Rattle.span.proofs.edge_of.Statement.{statement}
 use Rattle.span.proofs.edge_of.Tie as tie
 

@@ -1,7 +1,7 @@
 -- `span::up_to_last` meets its contract: the slots gone are not in the range. Assumes nothing.
-use Prim.Native.Nat.{ℕ, _+_, _-_}
+use Prim.Native.Nat.{_-_}
 use native.Mathlib.Omega.{arith}
-use mathlib.Core.Path.{_≡_, sym, ap, _∙_}
+use mathlib.Core.Path.{sym, _∙_}
 use Rattle.window.specs.Parts.{jobIn}
 use Rattle.model.specs.Window.{Job}
 use Rattle.search.specs.Cut.{onward}
