@@ -15,6 +15,10 @@
  * during the call. Stamps are nanoseconds. Values are doubles by their 64-bit pattern:
  * rondo_bits and rondo_double convert.
  *
+ * Every call but creation checks the table and each ring's header again, some nanoseconds a row, and
+ * changes nothing before all is good. So the fast ways are those that do much in a call: a batch for
+ * the values of one stamp (rondo_record_batch), and many points a call (rondo_read).
+ *
  * Link libedge.a (x86-64 Linux). Each function here has the contract that is proved of it in
  * crates/edge/src/lib.rt.
  */
@@ -145,7 +149,8 @@ uint32_t rondo_record(uint8_t *image, size_t image_len, uint32_t *flags,
 
 /*
  * Records entries_len / RONDO_ENTRY_SIZE entries at one stamp, all or none; a shorter rest is not
- * read. No entries: accepted, nothing changes. Refuses 11 for any entry, then 13, then 12.
+ * read. The entries may be of several schemas: one call for all rings is the fast way to record.
+ * No entries: accepted, nothing changes. Refuses 11 for any entry, then 13, then 12.
  */
 uint32_t rondo_record_batch(uint8_t *image, size_t image_len, uint32_t *flags,
                             const uint8_t *entries, size_t entries_len, uint64_t stamp);
@@ -210,8 +215,8 @@ static inline uint32_t rondo_next_point(const uint8_t *image, struct rondo_answe
 }
 
 /*
- * Many steps in one call: stores the next points of a reader, as many as `words_len` / 2 has room
- * for, moves *place past them and answers how many there are. Fewer than there is room for: the
+ * Many steps in one call, which is the fast way to read (32 points a call take half as long as 32
+ * calls of rondo_next): stores the next points of a reader, as many as `words_len` / 2 has room for, moves *place past them and answers how many there are. Fewer than there is room for: the
  * reader is at its end. Words past the stored points are left.
  */
 size_t rondo_read(const uint8_t *slab, size_t slab_len, uint32_t column,
@@ -233,6 +238,14 @@ static inline size_t rondo_read_points(const uint8_t *image, struct rondo_answer
  * new. So that no closed window is averaged over its last samples alone, let every ring but the
  * coarsest hold two of the coarsest intervals. Refuses 16, 10, 12, 13 by pair of tiers: what it did
  * before stays, *count is left.
+ *
+ * What it costs: each ring but the coarsest is gone over twice, about a nanosecond a stamp each time;
+ * then the samples from the start of the window that the last run ended in are read, or all if there
+ * was no run. In an image that these calls wrote, however many samples were missed or came late:
+ * where those span up to m times what the ring holds, it is gone over at most 2 m times in all (once
+ * more where that window is the first of all time). An image that came from elsewhere may have its
+ * stamps in any order, and is then gone over as often as it has windows, at the worst as many as its
+ * slots: do not run one that you do not trust where nothing may wait.
  */
 uint32_t rondo_consolidate(uint8_t *image, size_t image_len, uint32_t *flags, uint64_t *count);
 
