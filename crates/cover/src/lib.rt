@@ -1,119 +1,141 @@
-// What a query finds in an image in good order: how many tiers a schema has, the ends of a tier's ring, the tier that `query_auto` chooses
-// (`select_tier` of query.rs), and the answer of a tier. A tier's slab is handed on as the part of the image that its row names.
+// What a query finds in an image in good order: whether a schema has a tier; a row's ring, with its ends, the reader's place and where its slab stands; the
+// tier that `query_auto` chooses (`select_tier` of query.rs); the answer. Each ring is looked at once. A tier's slab is handed on as the part of the image
+// that its row names. `ring_at` and `answer` ask for a row's flag alone, so that a caller may keep its flags as it likes.
 ghost use mathlib.Core.Path.{_≡_};
-ghost use Prim.Native.Nat.{_+_, _<_};
+ghost use Prim.Native.Nat.{_<_};
+ghost use lib.Dec.{ltb};
 ghost use lib.ListN.{length};
-ghost use Rattle.model.specs.declared.Queried.the-variants.{Answer};
 ghost use Rattle.model.specs.Image.{rowCount, rows, tiersOf, openCheck};
-ghost use Rattle.model.specs.Ring.{oldest, newest};
-ghost use Rattle.model.specs.Lent.{firstRow, ring};
-ghost use Rattle.model.specs.Query.{choose, answered, repliedBy, found};
-ghost use Rattle.lent.specs.Parts.{lentOf};
+ghost use Rattle.model.specs.Lent.{firstRow};
+ghost use Rattle.cover.specs.Reached.{Reached, foundBy, AnswerIs, NotFirst, ChosenIs};
 
-// The ends of a ring.
-pub struct Ends {
+// A row's ring as a query finds it: both ends, where its reading starts, and where its slab stands in the image.
+pub struct Reach {
     pub oldest: model::End,
     pub newest: model::End,
+    pub place: model::Place,
+    pub from: usize,
+    pub to: usize,
 }
 
-// How many tiers a schema has.
-pub fn tier_count(image: &[u8], schema: u64) -> usize
+// The tier that is chosen, and its ring.
+pub struct Chosen {
+    pub tier: usize,
+    pub reach: Reach,
+}
+
+// A schema has a tier: the row where it would stand is there and is of the schema. `first` is the row of tier 0.
+pub fn has_tier(image: &[u8], schema: u64, first: usize, tier: usize) -> bool
     requires { ⌜ openCheck (now image) ≡ 0 ⌝ }
-    ensures { λ r. ⌜ r ≡ length (tiersOf schema (rows (now (image .entry)))) ⌝ }
+    requires { ⌜ (first ≡ firstRow schema (rows (now image))) × (first < rowCount (now image)) × (tier < 4294967296) ⌝ }
+    ensures { λ r. ⌜ r ≡ ltb tier (length (tiersOf schema (rows (now (image .entry))))) ⌝ }
 {
     let n = field::get_u32(image, 12) as usize;
-    let mut count = 0;
-    let mut i = 0;
-    while i < n {
-        let s = field::get_u32(image, 32 + 64 * i);
-        if s != schema {
-            i += 1;
-            continue;
-        }
-        count += 1;
-        i += 1;
+    let row = first + tier;
+    if row >= n {
+        return false;
     }
-    count
+    let s = field::get_u32(image, 32 + 64 * row);
+    s == schema
 }
 
-// The ends of a row's ring.
-fn ends_at(image: &[u8], flags: model::Flags, row: usize) -> Ends
+// A row's ring, whose flag is `wrapped`.
+pub fn ring_at(image: &[u8], row: usize, wrapped: bool) -> Reach
     requires { ⌜ openCheck (now image) ≡ 0 ⌝ }
     requires { ⌜ row < rowCount (now image) ⌝ }
-    ensures { λ r. ⌜ (r .oldest ≡ oldest (ring (lentOf (now (image .entry)) flags) row)) × (r .newest ≡ newest (ring (lentOf (now (image .entry)) flags) row)) ⌝ }
+    ensures { λ r. ⌜ Reached (now (image .entry)) row wrapped r ⌝ }
 {
     let s = lent::slab_at(image, row);
     let from = s.from;
     let to = s.to;
-    let wrapped = lent::flag(flags, row);
     let slab = &image[from..to];
     let oldest = ends::oldest(slab, s.slots, s.series, wrapped);
     let newest = ends::newest(slab, s.slots, s.series, wrapped);
-    Ends {
+    let place = ring::first_place(slab, s.slots, s.series, wrapped);
+    Reach {
         oldest: oldest,
         newest: newest,
+        place: place,
+        from: from,
+        to: to,
     }
 }
 
-// The first tier of a schema that fully covers a range, else the last with both ends, else 0. `first` is the row of tier 0.
-pub fn choose(
+// The choice among the tiers behind tier 0, which does not cover the range in full; `finest` is its ring.
+fn choose_behind(
     image: &[u8],
-    flags: model::Flags,
+    flags: u32,
     schema: u64,
     first: usize,
+    finest: Reach,
     start: u64,
     end: u64,
-) -> usize
+) -> Chosen
     requires { ⌜ openCheck (now image) ≡ 0 ⌝ }
-    requires { ⌜ (first ≡ firstRow schema (rows (now image))) × (0 < length (tiersOf schema (rows (now image)))) ⌝ }
-    ensures { λ r. ⌜ (r ≡ choose (lentOf (now (image .entry)) flags) schema start end) × (r < length (tiersOf schema (rows (now (image .entry))))) ⌝ }
+    requires { ⌜ NotFirst (now image) flags schema first finest start end ⌝ }
+    ensures { λ r. ⌜ ChosenIs (now (image .entry)) flags schema first start end r ⌝ }
 {
-    let count = tier_count(image, schema);
     let mut best = 0;
-    let mut tier = 0;
-    while tier < count {
-        let ends = ends_at(image, flags, first + tier);
-        let oldest = ends.oldest;
-        let newest = ends.newest;
+    let mut kept = finest;
+    let mut tier = 1;
+    loop {
+        let more = has_tier(image, schema, first, tier);
+        if !more {
+            return Chosen {
+                tier: best,
+                reach: kept,
+            };
+        }
+        let wrapped = bits::flag_at(flags, first + tier);
+        let here = ring_at(image, first + tier, wrapped);
+        let oldest = here.oldest;
+        let newest = here.newest;
         let covers = ends::is_full(oldest, newest, start, end);
         if covers {
-            return tier;
+            return Chosen {
+                tier: tier,
+                reach: here,
+            };
         }
         let both = ends::has_both(oldest, newest);
         if both {
             best = tier;
+            kept = here;
             tier += 1;
             continue;
         }
         tier += 1;
     }
-    best
+}
+
+// The first tier of a schema that fully covers a range, else the last with both ends, else 0. `first` is the row of tier 0.
+pub fn choose(image: &[u8], flags: u32, schema: u64, first: usize, start: u64, end: u64) -> Chosen
+    requires { ⌜ openCheck (now image) ≡ 0 ⌝ }
+    requires { ⌜ (first ≡ firstRow schema (rows (now image))) × (0 < length (tiersOf schema (rows (now image)))) ⌝ }
+    ensures { λ r. ⌜ ChosenIs (now (image .entry)) flags schema first start end r ⌝ }
+{
+    let wrapped = bits::flag_at(flags, first);
+    let finest = ring_at(image, first, wrapped);
+    let oldest = finest.oldest;
+    let newest = finest.newest;
+    let covers = ends::is_full(oldest, newest, start, end);
+    if covers {
+        return Chosen {
+            tier: 0,
+            reach: finest,
+        };
+    }
+    choose_behind(image, flags, schema, first, finest, start, end)
 }
 
 // The answer of a row's ring, which is tier `tier`.
-pub fn answer(
-    image: &[u8],
-    flags: model::Flags,
-    row: usize,
-    column: u32,
-    tier: u32,
-    start: u64,
-    end: u64,
-) -> model::Found
-    requires { ⌜ openCheck (now image) ≡ 0 ⌝ }
-    requires { ⌜ row < rowCount (now image) ⌝ }
-    ensures { λ r. ⌜ repliedBy (now (image .entry)) (Answer r) ≡ found (answered (lentOf (now (image .entry)) flags) row column tier start end) ⌝ }
+pub fn answer_of(r: Reach, column: u32, tier: u32, start: u64, end: u64) -> model::Found
+    ensures { λ f. ⌜ f ≡ foundBy r column tier start end ⌝ }
 {
-    let ends = ends_at(image, flags, row);
-    let oldest = ends.oldest;
-    let newest = ends.newest;
+    let oldest = r.oldest;
+    let newest = r.newest;
     let incomplete = ends::is_incomplete(oldest, newest, start, end);
-    let s = lent::slab_at(image, row);
-    let from = s.from;
-    let to = s.to;
-    let wrapped = lent::flag(flags, row);
-    let slab = &image[from..to];
-    let place = ring::first_place(slab, s.slots, s.series, wrapped);
+    let place = r.place;
     model::Found {
         tier: tier,
         oldest: oldest,
@@ -122,8 +144,26 @@ pub fn answer(
         end: end,
         incomplete: incomplete,
         column: column,
-        from: from,
-        to: to,
+        from: r.from,
+        to: r.to,
         place: place,
     }
+}
+
+// The answer of a row, which is tier `tier` and whose flag is `wrapped`.
+pub fn answer(
+    image: &[u8],
+    row: usize,
+    wrapped: bool,
+    column: u32,
+    tier: u32,
+    start: u64,
+    end: u64,
+) -> model::Found
+    requires { ⌜ openCheck (now image) ≡ 0 ⌝ }
+    requires { ⌜ row < rowCount (now image) ⌝ }
+    ensures { λ f. ⌜ AnswerIs (now (image .entry)) row wrapped column tier start end f ⌝ }
+{
+    let found = ring_at(image, row, wrapped);
+    answer_of(found, column, tier, start, end)
 }

@@ -15,7 +15,7 @@ use Rattle.model.specs.declared.Queried.the-variants as Q
 use Rattle.model.specs.declared.Found.{Found}
 use Rattle.model.specs.declared.Refusal.{Refusal}
 use Rattle.model.specs.Words.{numberOf}
-use Rattle.model.specs.Query.{QueryReply, repliedBy}
+use Rattle.model.specs.Query.{QueryReply, notFound, repliedBy}
 use Rattle.model.specs.Lent.{Lent}
 use Rattle.model.specs.Record.{Entry}
 use Rattle.model.specs.Store.{Done, call, recordCall, batchCall, consolidateCall, consolidatedReply}
@@ -99,6 +99,11 @@ words-of f o n i p q r = rw (p, q, r)
 pub asked : (s : List ℕ) (q : Queried) (m : ℕ) (u old : List ℕ) (a : QueryReply) → m ≡ queriedNo q → u ≡ queriedWords q old → repliedBy s q ≡ a
     → (m ≡ queryNo a) × (u ≡ queryWords a old)
 asked s q m u old a e h r = (e ∙ query-no s q ∙ ap queryNo r, h ∙ query-words s q old ∙ ap (λ x. queryWords x old) r)
+
+-- opening's refusal n leaves the numbers
+pub not-found : (n : ℕ) (old : List ℕ) {a : QueryReply} → notFound n ≡ a → (n ≡ queryNo a) × (old ≡ queryWords a old)
+unfolding queryNo queryWords
+not-found n old e = (ap queryNo e, ap (λ x. queryWords x old) e)
 
 pub answer-stored : (q : Queried) (f : Found) (w old : List ℕ) → q ≡ Q.Answer f → w ≡ foundWords f → (0 ≡ queriedNo q) × (w ≡ queriedWords q old)
 unfolding queriedNo queriedWords

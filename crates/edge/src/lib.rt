@@ -173,8 +173,11 @@ pub extern "C" fn rondo_query(
         schema: schema,
         column: column,
     };
-    let wrapped = bits::flags_of(flags);
-    let reply = query::query(image, wrapped, handle, tier, start, end);
+    let opened = quick::check(image);
+    if opened != 0 {
+        return opened;
+    }
+    let reply = query::query_numbered(image, flags, handle, tier, start, end);
     answer_query(reply, answer)
 }
 
@@ -196,8 +199,11 @@ pub extern "C" fn rondo_query_auto(
         schema: schema,
         column: column,
     };
-    let wrapped = bits::flags_of(flags);
-    let reply = query::query_auto(image, wrapped, handle, start, end);
+    let opened = quick::check(image);
+    if opened != 0 {
+        return opened;
+    }
+    let reply = query::auto_numbered(image, flags, handle, start, end);
     answer_query(reply, answer)
 }
 

@@ -1,35 +1,51 @@
 -- The outcome of `query` and of `query_auto`, one law a way: opening's refusal, 11, 14, 15, the answer. Assumes nothing.
 use Prim.Native.Nat.{ℕ, zero, suc, _+_, _≤_, _<_}
-use mathlib.Core.Path.{_≡_, sym, _∙_}
-use mathlib.Core.Bool.{true}
-use mathlib.Core.List.{List}
+use native.Mathlib.Omega.{arith}
+use mathlib.Core.Path.{_≡_, refl, sym, _∙_}
+use mathlib.Core.Logic.{_≢_}
+use mathlib.Core.Bool.{Bool, true, false}
+use mathlib.Core.List.{List, []}
 use lib.ListN.{length}
 use Rattle.model.specs.declared.Refusal.{Refusal}
 use Rattle.model.specs.declared.Refusal.the-variants.{InvalidHandle, InvalidTier, InvalidTimeRange}
-use Rattle.model.specs.declared.Flags.{Flags}
 use Rattle.model.specs.declared.Queried.the-variants.{Refused}
 use Rattle.model.specs.Words.{numberOf}
-use Rattle.model.specs.Image.{unless, first, rows, tiersOf, openCheck}
+use Rattle.model.specs.Image.{unless, first, rowCount, rows, tiersOf, openCheck}
 use Rattle.model.specs.Lent.{Lent, tiers, firstRow, rowNo}
 use Rattle.model.specs.Record.{handleOk}
-use Rattle.model.specs.Query.{QueryReply, found, queryCheck, autoCheck, choose, answered, queryOn, query, queryAuto, repliedBy}
+use Rattle.model.specs.Query.{QueryReply, found, notFound, queryCheck, autoCheck, choose, answered, queryOn, query, queryAuto, repliedBy}
 use Rattle.laws.specs.Tests.{yes-lt, no-lt}
 use Rattle.frame.specs.Good.{good-open}
 use Rattle.frame.specs.Tiers.{some-tier}
 use Rattle.rows.specs.First.{first-stop, refusal-no}
-use Rattle.lent.specs.Parts.{lentOf, finestOf}
+use Rattle.lent.specs.Parts.{finestOf}
 use Rattle.lent.specs.declared.Finest.the-variants.{At, Missing}
-use Rattle.lent.specs.Handle.{handle-none, handle-at, handle-in}
+use Rattle.lent.specs.Handle.{handle-none, handle-at, handle-in, row-there}
+use Rattle.lent.proofs.Laws.{few-rows}
+use Rattle.cover.specs.Reached.{lentBy}
+use Rattle.cover.proofs.Laws.{tier-there}
+use Rattle.query.specs.Sought.{SoughtAt}
 
-module _ (s : List ℕ) (f : Flags) (k c start end : ℕ) where
+module _ (s : List ℕ) (bs : List Bool) (k c start end : ℕ) where
   abbrev l : Lent
-  l = lentOf s f
+  l = lentBy s bs
 
   -- a check that gives a refusal's number
   refused-on : (w : Refusal) (j n : ℕ) → n ≡ numberOf w → repliedBy s (Refused w) ≡ queryOn n l k c j start end
   unfolding repliedBy queryOn
   refused-on w j zero e = absurd (refusal-no w (sym e))
   refused-on w j (suc n) e = rw (← e)
+
+  -- opening's number, as it is
+  pub unopened : (n j : ℕ) → n ≢ 0 → n ≡ openCheck s → notFound n ≡ query l k c j start end
+  unfolding query queryCheck queryOn
+  unopened zero j z e = absurd (z refl)
+  unopened (suc n) j z e = rw (← e, first-stop (suc n) _ z)
+
+  pub auto-unopened : (n : ℕ) → n ≢ 0 → n ≡ openCheck s → notFound n ≡ queryAuto l k c start end
+  unfolding queryAuto autoCheck queryOn
+  auto-unopened zero z e = absurd (z refl)
+  auto-unopened (suc n) z e = rw (← e, first-stop (suc n) _ z)
 
   module _ (w : Refusal) (e : numberOf w ≡ openCheck s) where
     pub not-opened : (j : ℕ) → repliedBy s (Refused w) ≡ query l k c j start end
@@ -84,3 +100,26 @@ module _ (s : List ℕ) (f : Flags) (k c start end : ℕ) where
       pub auto-answers : (j : ℕ) → j ≡ choose l k start end → start < end → {x : QueryReply} → x ≡ found (answered l (i + j) c j start end) → x ≡ queryAuto l k c start end
       unfolding queryAuto autoCheck first unless
       auto-answers j e q x = answered-on j (autoCheck l k c start end) (rw (h, ok, yes-lt start end q)) x ∙ rw e
+
+-- ---- whatever the flags: `at` says that i is the row of the handle's finest tier
+
+module _ (s : List ℕ) (k c : ℕ) (h : openCheck s ≡ 0) {i : ℕ} (at : finestOf s k c ≡ At i) where
+  pub finest-is : i ≡ firstRow k (rows s)
+  finest-is = first-is s [] k c 0 0 h at
+
+  pub finest-there : i < rowCount s
+  finest-there = row-there (lentBy s []) k c h at .0
+
+  pub some-tier-there : 0 < length (tiersOf k (rows s))
+  some-tier-there = has-tier s [] k c 0 0 h at
+
+  -- the row of tier j
+  module _ (j : ℕ) (low : j < length (tiersOf k (rows s))) where
+    pub row-there-too : i + j < rowCount s
+    row-there-too = tier-there s h k j finest-is low
+
+    pub row-low : i + j < 32
+    row-low = omega (arith, row-there-too, few-rows s h)
+
+    pub sought-at : (start end : ℕ) → start < end → SoughtAt s k c j start end (i + j)
+    sought-at start end q = record { there = row-there-too; few-rows = row-low; replies = λ bs. answers s bs k c start end h at j low q refl }

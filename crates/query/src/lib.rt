@@ -1,9 +1,37 @@
 // `query` and `query_auto` by value (Rust's `Store::query` and `Store::query_auto`): opening's order on every call, then 11, 14, 15, or 11, 15 and the choice of
-// a tier; the answer has the tier, both ends, the range, the incomplete mark and the reader's place. Nothing that is lent changes.
+// a tier; the answer has the tier, both ends, the range, the incomplete mark and the reader's place. Nothing that is lent changes. `query_numbered` and
+// `auto_numbered` have the flags as one number, as they cross the edge to C, once opening's check has passed.
 ghost use mathlib.Core.Path.{_≡_};
 ghost use Rattle.model.specs.Image.{openCheck};
 ghost use Rattle.model.specs.Query.{query, queryAuto, repliedBy};
 ghost use Rattle.lent.specs.Parts.{lentOf};
+ghost use Rattle.bits.specs.One.{lentAt};
+ghost use Rattle.query.specs.Sought.{SoughtIs};
+
+// The row that a query reads. Or why it is refused.
+pub enum Sought {
+    Row(usize),
+    Refused(model::Refusal),
+}
+
+// The row of a handle's tier, once opening's check has passed: 11, 14, 15, or the row.
+fn seek(image: &[u8], handle: model::SeriesHandle, tier: u32, start: u64, end: u64) -> Sought
+    requires { ⌜ openCheck (now image) ≡ 0 ⌝ }
+    ensures { λ r. ⌜ SoughtIs (now (image .entry)) (handle .schema) (handle .column) tier start end r ⌝ }
+{
+    let schema = handle.schema as u64;
+    let lent::Finest::At(first) = lent::finest_row(image, schema, handle.column as u64) else {
+        return Sought::Refused(model::Refusal::InvalidHandle);
+    };
+    let there = cover::has_tier(image, schema, first, tier as usize);
+    if !there {
+        return Sought::Refused(model::Refusal::InvalidTier);
+    }
+    if start < end {
+        return Sought::Row(first + (tier as usize));
+    }
+    Sought::Refused(model::Refusal::InvalidTimeRange)
+}
 
 // Queries a tier, once opening's check has passed.
 fn query_opened(
@@ -17,33 +45,50 @@ fn query_opened(
     requires { ⌜ openCheck (now image) ≡ 0 ⌝ }
     ensures { λ r. ⌜ repliedBy (now (image .entry)) r ≡ query (lentOf (now (image .entry)) flags) (handle .schema) (handle .column) tier start end ⌝ }
 {
-    let schema = handle.schema as u64;
-    let column = handle.column;
-    let lent::Finest::At(first) = lent::finest_row(image, schema, column as u64) else {
-        return model::Queried::Refused(model::Refusal::InvalidHandle);
-    };
-    let count = cover::tier_count(image, schema);
-    if (tier as usize) >= count {
-        return model::Queried::Refused(model::Refusal::InvalidTier);
+    let target = seek(image, handle, tier, start, end);
+    match target {
+        Sought::Row(row) => {
+            let wrapped = lent::flag(flags, row);
+            let found = cover::answer(image, row, wrapped, handle.column, tier, start, end);
+            model::Queried::Answer(found)
+        }
+        Sought::Refused(r) => model::Queried::Refused(r),
     }
-    if start < end {
-        let row = first + (tier as usize);
-        let found = cover::answer(image, flags, row, column, tier, start, end);
-        return model::Queried::Answer(found);
-    }
-    model::Queried::Refused(model::Refusal::InvalidTimeRange)
 }
 
-// Queries the tier that covers the range best, once opening's check has passed.
-fn query_auto_opened(
+// The same with the flags as a number, of which one is read.
+pub fn query_numbered(
     image: &[u8],
-    flags: model::Flags,
+    flags: u32,
+    handle: model::SeriesHandle,
+    tier: u32,
+    start: u64,
+    end: u64,
+) -> model::Queried
+    requires { ⌜ openCheck (now image) ≡ 0 ⌝ }
+    ensures { λ r. ⌜ repliedBy (now (image .entry)) r ≡ query (lentAt (now (image .entry)) flags) (handle .schema) (handle .column) tier start end ⌝ }
+{
+    let target = seek(image, handle, tier, start, end);
+    match target {
+        Sought::Row(row) => {
+            let wrapped = bits::flag_at(flags, row);
+            let found = cover::answer(image, row, wrapped, handle.column, tier, start, end);
+            model::Queried::Answer(found)
+        }
+        Sought::Refused(r) => model::Queried::Refused(r),
+    }
+}
+
+// Queries the tier that covers the range best, once opening's check has passed, with the flags as a number.
+pub fn auto_numbered(
+    image: &[u8],
+    flags: u32,
     handle: model::SeriesHandle,
     start: u64,
     end: u64,
 ) -> model::Queried
     requires { ⌜ openCheck (now image) ≡ 0 ⌝ }
-    ensures { λ r. ⌜ repliedBy (now (image .entry)) r ≡ queryAuto (lentOf (now (image .entry)) flags) (handle .schema) (handle .column) start end ⌝ }
+    ensures { λ r. ⌜ repliedBy (now (image .entry)) r ≡ queryAuto (lentAt (now (image .entry)) flags) (handle .schema) (handle .column) start end ⌝ }
 {
     let schema = handle.schema as u64;
     let column = handle.column;
@@ -53,9 +98,10 @@ fn query_auto_opened(
     if start >= end {
         return model::Queried::Refused(model::Refusal::InvalidTimeRange);
     }
-    let tier = cover::choose(image, flags, schema, first, start, end);
-    let row = first + tier;
-    let found = cover::answer(image, flags, row, column, tier as u32, start, end);
+    let chosen = cover::choose(image, flags, schema, first, start, end);
+    let tier = chosen.tier as u32;
+    let reach = chosen.reach;
+    let found = cover::answer_of(reach, column, tier, start, end);
     model::Queried::Answer(found)
 }
 
@@ -91,5 +137,6 @@ pub fn query_auto(
     if let model::Outcome::Refused(why) = opened {
         return model::Queried::Refused(why);
     }
-    query_auto_opened(image, flags, handle, start, end)
+    let number = bits::number_of(flags);
+    auto_numbered(image, number, handle, start, end)
 }

@@ -15,7 +15,8 @@ enum-known-opened c = search needs
 returns : tie.Need-returns
 returns c =
     let a = c .before .before .before .before .before .args in
-    not-opened (a .image .now) (a .flags) (a .handle .schema) (a .handle .column) (a .start) (a .end) (c .before .opened .given .0 .0) (sym (ap outcomeNo (c .before .opened .given .1)) ∙ c .before .before .before .check-image .ensures) (a .tier)
+    not-opened (a .image .now) (a .flags .wrapped) (a .handle .schema) (a .handle .column) (a .start) (a .end)
+    (c .before .opened .given .0 .0) (sym (ap outcomeNo (c .before .opened .given .1)) ∙ c .before .before .before .check-image .ensures) (a .tier)
 
 enum-told : tie.Need-enum-told
 enum-told c = search needs

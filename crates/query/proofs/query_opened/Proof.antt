@@ -1,76 +1,40 @@
--- `query::query_opened` meets its contract, one case a return. Assumes nothing.
-use native.Mathlib.Omega.{arith}
-use mathlib.Core.Path.{sym, _∙_}
-use Rattle.lent.proofs.Laws.{few-rows}
-use Rattle.cover.proofs.Laws.{tier-there}
-use Rattle.query.proofs.Laws.{bad-handle, first-is, bad-tier, bad-range, answers}
+-- `query::query_opened` meets its contract: the refusal that `seek` found, or the answer of the row that it found. Assumes nothing.
+use mathlib.Core.Path.{_∙_}
+use Rattle.query.specs.Sought.{SoughtAt, row-sought, refusal-sought}
 use borrow.Author.Needs.{needs}
 use Rattle.query.proofs.query_opened.Statement.{statement}
 use Rattle.query.proofs.query_opened.Tie as tie
 
-cast-schema : tie.Need-cast-schema
-cast-schema c = search needs
+-- where the row is found, and where the function begins
+abbrev start : tie.After-known-told → tie.Start
+start c = c .before .before .before .before .before
 
-cast-finest-row : tie.Need-cast-finest-row
-cast-finest-row c = search needs
+row : (c : tie.After-known-told) → let a = start c .args in SoughtAt (a .image .now) (a .handle .schema) (a .handle .column) (a .tier) (a .start) (a .end) (c .before .target .given .0 .0)
+row c = row-sought (c .before .target .given .1) (c .before .before .before .seek .ensures)
 
-finest-row-requires : tie.Need-finest-row-requires
-finest-row-requires c κs = search needs
+seek-requires : tie.Need-seek-requires
+seek-requires c κs = search needs
 
-enum-known-first : tie.Need-enum-known-first
-enum-known-first c = search needs
+enum-known-target : tie.Need-enum-known-target
+enum-known-target c = search needs
 
-enum-told : tie.Need-enum-told
-enum-told c = search needs
+flag-requires : tie.Need-flag-requires
+flag-requires c κs = row c .few-rows
+
+answer-requires : tie.Need-answer-requires
+answer-requires c κs = (start (c .before) .pre, row (c .before) .there)
+
+enum-known-target-2 : tie.Need-enum-known-target-2
+enum-known-target-2 c = search needs
 
 returns : tie.Need-returns
-returns c =
-    let a = c .before .before .before .before .before .args in
-    bad-handle (a .image .now) (a .flags) (a .handle .schema) (a .handle .column) (a .start) (a .end) (c .before .before .before .before .before .pre) (sym (c .before .before .finest-row .ensures) ∙ c .enum-told .given .1) (a .tier)
-
-tier-count-requires : tie.Need-tier-count-requires
-tier-count-requires c κs = search needs
+returns c = let k = c .before .before in c .answer .ensures (start k .args .flags .wrapped) (c .before .flag .ensures) ∙ row k .replies (start k .args .flags .wrapped)
 
 returns-2 : tie.Need-returns-2
 returns-2 c =
-    let a = c .before .before .before .before .before .before .before .before .args in
-    bad-tier (a .image .now) (a .flags) (a .handle .schema) (a .handle .column) (a .start) (a .end) (c .before .before .before .before .before .before .before .before .pre) (sym (c .before .before .before .before .before .finest-row .ensures) ∙ c .before .before .before .first .given .1) (a .tier) (omega (arith, c .before .tier-count .ensures))
-
-add-row : tie.Need-add-row
-add-row c =
-    let a = c .before .before .before .before .before .before .before .before .before .args in
-    let e = first-is (a .image .now) (a .flags) (a .handle .schema) (a .handle .column) (a .start) (a .end) (c .before .before .before .before .before .before .before .before .before .pre) (sym (c .before .before .before .before .before .before .finest-row .ensures) ∙ c .before .before .before .before .first .given .1) in
-    omega (arith, few-rows (a .image .now) (c .before .before .before .before .before .before .before .before .before .pre), tier-there (a .image .now) (c .before .before .before .before .before .before .before .before .before .pre) (a .handle .schema) (a .tier) e (omega (arith, c .before .before .tier-count .ensures)))
-
-answer-requires : tie.Need-answer-requires
-answer-requires c κs =
-    let a = c .before .before .before .before .before .before .before .before .before .args in
-    let e = first-is (a .image .now) (a .flags) (a .handle .schema) (a .handle .column) (a .start) (a .end) (c .before .before .before .before .before .before .before .before .before .pre) (sym (c .before .before .before .before .before .before .finest-row .ensures) ∙ c .before .before .before .before .first .given .1) in
-    (c .before .before .before .before .before .before .before .before .before .pre, tier-there (a .image .now) (c .before .before .before .before .before .before .before .before .before .pre) (a .handle .schema) (a .tier) e (omega (arith, c .before .before .tier-count .ensures)))
-
-returns-3 : tie.Need-returns-3
-returns-3 c =
-    let a = c .before .before .before .before .before .before .before .before .before .before .args in
-    answers (a .image .now) (a .flags) (a .handle .schema) (a .handle .column) (a .start) (a .end) (c .before .before .before .before .before .before .before .before .before .before .pre) (sym (c .before .before .before .before .before .before .before .finest-row .ensures) ∙ c .before .before .before .before .before .first .given .1) (a .tier) (omega (arith, c .before .before .before .tier-count .ensures)) (c .before .if2 .taken) (c .answer .ensures)
-
-returns-4 : tie.Need-returns-4
-returns-4 c =
-    let a = c .before .before .before .before .before .before .before .before .before .args in
-    bad-range (a .image .now) (a .flags) (a .handle .schema) (a .handle .column) (a .start) (a .end) (c .before .before .before .before .before .before .before .before .before .pre) (sym (c .before .before .before .before .before .before .finest-row .ensures) ∙ c .before .before .before .before .first .given .1) (a .tier) (omega (arith, c .before .before .tier-count .ensures)) (c .if2 .left)
+    let a = c .before .before .before .before .before .args in
+    refusal-sought (a .image .now) (a .handle .schema) (a .handle .column) (a .tier) (a .start) (a .end) (c .before .target2 .given .1) (c .before .before .before .seek .ensures) (a .flags .wrapped)
 
 pub query-opened-spec : {M : Type 1} → statement M
 query-opened-spec =
-    tie.close
-    (tie.spec
-    cast-schema
-    cast-finest-row
-    finest-row-requires
-    enum-known-first
-    enum-told
-    returns
-    tier-count-requires
-    returns-2
-    add-row
-    answer-requires
-    returns-3
-    returns-4)
+    tie.close (tie.spec seek-requires enum-known-target flag-requires answer-requires enum-known-target-2 returns returns-2)
