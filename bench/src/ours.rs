@@ -150,14 +150,14 @@ impl Side for Ours {
         let (i, mut answer) = (&self.image, [0; 11]);
         let done = unsafe { rondo_query(i.as_ptr(), i.len(), self.flags, 0, column, tier, start, end, &mut answer) };
         assert_eq!(done, 0);
-        black_box(answer);
+        black_box(&answer);
     }
 
     fn ask_auto(&mut self, column: u32, start: u64, end: u64) {
         let (i, mut answer) = (&self.image, [0; 11]);
         let done = unsafe { rondo_query_auto(i.as_ptr(), i.len(), self.flags, 0, column, start, end, &mut answer) };
         assert_eq!(done, 0);
-        black_box(answer);
+        black_box(&answer);
     }
 
     fn consolidate(&mut self) -> u64 {

@@ -106,11 +106,11 @@ impl Side for Published {
     }
 
     fn ask(&mut self, column: u32, tier: u32, start: u64, end: u64) {
-        black_box(self.store().query(handle(column), tier as usize, start, end).unwrap());
+        black_box(&self.store().query(handle(column), tier as usize, start, end).unwrap());
     }
 
     fn ask_auto(&mut self, column: u32, start: u64, end: u64) {
-        black_box(self.store().query_auto(handle(column), start, end).unwrap());
+        black_box(&self.store().query_auto(handle(column), start, end).unwrap());
     }
 
     fn consolidate(&mut self) -> u64 {

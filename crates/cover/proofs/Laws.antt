@@ -42,7 +42,7 @@ module _ {s : List ℕ} {i from to n m d : ℕ} (h : SlabAt s i from to n m d) w
 
   -- what is found in its ring
   pub reached : (w : Bool) {o e : End} {p : Place} → o ≡ oldest (ringOf (take (to - from) (drop from s)) w) → e ≡ newest (ringOf (take (to - from) (drop from s)) w)
-      → p ≡ firstPlace (ringOf (take (to - from) (drop from s)) w) → Reached s i w (record { oldest = o; newest = e; place = p; from = from; to = to })
+      → p ≡ firstPlace (ringOf (take (to - from) (drop from s)) w) → Reached s i w (record { from = from; oldest = o; slot = p .slot; newest = e; to = to; left = p .left })
   reached w o-is e-is p-is = record {
     oldest-is = o-is ∙ rw part-is;
     newest-is = e-is ∙ rw part-is;

@@ -5,6 +5,7 @@ use mathlib.Core.Bool.{Bool, false}
 use mathlib.Core.List.{List}
 use lib.ListN.{length, getD}
 use Rattle.model.specs.declared.Found.{Found}
+use Rattle.model.specs.declared.Place.{Place}
 use Rattle.model.specs.declared.Queried.the-variants.{Answer}
 use Rattle.model.specs.Image.{rowAt, rowCount, rows, tiersOf, slabOf}
 use Rattle.model.specs.Ring.{Ring, firstPlace, oldest, newest}
@@ -29,11 +30,15 @@ pub row-ring : (s : List ℕ) (bs : List Bool) (i : ℕ) {w : Bool} → w ≡ ge
 unfolding ring row
 row-ring s bs i e = rw e
 
+-- where its reading starts
+abbrev pub placeOf : Reach → Place
+placeOf r = record { slot = r .slot; left = r .left }
+
 -- what is found there
 pub record Reached (s : List ℕ) (i : ℕ) (w : Bool) (r : Reach) : Type 0 where
   pub oldest-is : r .oldest ≡ oldest (rowRing s i w)
   pub newest-is : r .newest ≡ newest (rowRing s i w)
-  pub place-is : r .place ≡ firstPlace (rowRing s i w)
+  pub place-is : placeOf r ≡ firstPlace (rowRing s i w)
   pub from-is : r .from ≡ rowAt s i .offset
   pub to-is : r .to ≡ r .from + rowAt s i .len
 
@@ -50,7 +55,7 @@ foundBy r c j start end = record {
   column = c;
   from = r .from;
   to = r .to;
-  place = r .place;
+  place = placeOf r;
 }
 
 -- f is the answer of row i, which is tier j, whatever the other flags

@@ -9,13 +9,15 @@ ghost use Rattle.model.specs.Image.{rowCount, rows, tiersOf, openCheck};
 ghost use Rattle.model.specs.Lent.{firstRow};
 ghost use Rattle.cover.specs.Reached.{Reached, foundBy, AnswerIs, NotFirst, ChosenIs};
 
-// A row's ring as a query finds it: both ends, where its reading starts, and where its slab stands in the image.
+// A row's ring as a query finds it: both ends, the slot where its reading starts and how many slots it goes over, and where its slab stands in the image. What
+// stands side by side in an answer does not here: else the compiler copies two words by one load right after two stores, which stalls every query.
 pub struct Reach {
-    pub oldest: model::End,
-    pub newest: model::End,
-    pub place: model::Place,
     pub from: usize,
+    pub oldest: model::End,
+    pub slot: usize,
+    pub newest: model::End,
     pub to: usize,
+    pub left: usize,
 }
 
 // The tier that is chosen, and its ring.
@@ -53,11 +55,12 @@ pub fn ring_at(image: &[u8], row: usize, wrapped: bool) -> Reach
     let newest = ends::newest(slab, s.slots, s.series, wrapped);
     let place = ring::first_place(slab, s.slots, s.series, wrapped);
     Reach {
-        oldest: oldest,
-        newest: newest,
-        place: place,
         from: from,
+        oldest: oldest,
+        slot: place.slot,
+        newest: newest,
         to: to,
+        left: place.left,
     }
 }
 
@@ -135,7 +138,10 @@ pub fn answer_of(r: Reach, column: u32, tier: u32, start: u64, end: u64) -> mode
     let oldest = r.oldest;
     let newest = r.newest;
     let incomplete = ends::is_incomplete(oldest, newest, start, end);
-    let place = r.place;
+    let place = model::Place {
+        slot: r.slot,
+        left: r.left,
+    };
     model::Found {
         tier: tier,
         oldest: oldest,

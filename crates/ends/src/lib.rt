@@ -16,7 +16,38 @@ fn end_of(stamp: u64) -> model::End
     model::End::At(stamp)
 }
 
-// The first nonzero stamp from a place on, or 0.
+// A place from which on the first nonzero stamp is the same: empty slots are passed over eight at a time, as far as eight stand side by side.
+fn past_empty(slab: &[u8], n: usize, m: usize, place: model::Place) -> model::Place
+    requires { ⌜ Sized (now slab) n m ⌝ }
+    requires { ⌜ place .slot < n ⌝ }
+    ensures { λ r. ⌜ (r .slot < n) × (firstStamp (now (slab .entry)) (walk n (r .slot) (r .left)) ≡ firstStamp (now (slab .entry)) (walk n (place .slot) (place .left))) ⌝ }
+{
+    let mut slot = place.slot;
+    let mut left = place.left;
+    while 8 <= left {
+        if n < slot + 8 {
+            return model::Place {
+                slot: slot,
+                left: left,
+            };
+        }
+        let eight = joined::eight(slab, n, m, slot);
+        if eight != 0 {
+            return model::Place {
+                slot: slot,
+                left: left,
+            };
+        }
+        slot = ring::next_slot(n, slot + 7);
+        left -= 8;
+    }
+    model::Place {
+        slot: slot,
+        left: left,
+    }
+}
+
+// The first nonzero stamp from a place on, or 0: a slot at a time.
 fn first_stamp(slab: &[u8], n: usize, m: usize, place: model::Place) -> u64
     requires { ⌜ Sized (now slab) n m ⌝ }
     requires { ⌜ place .slot < n ⌝ }
@@ -35,13 +66,31 @@ fn first_stamp(slab: &[u8], n: usize, m: usize, place: model::Place) -> u64
     0
 }
 
+// The same. The first slot alone, then eight at a time: most rings have no empty slot there.
+fn oldest_stamp(slab: &[u8], n: usize, m: usize, place: model::Place) -> u64
+    requires { ⌜ Sized (now slab) n m ⌝ }
+    requires { ⌜ place .slot < n ⌝ }
+    ensures { λ r. ⌜ r ≡ firstStamp (now (slab .entry)) (walk n (place .slot) (place .left)) ⌝ }
+{
+    let slot = place.slot;
+    let left = place.left;
+    if 0 < left {
+        let stamp = ring::stamp_of(slab, n, m, slot);
+        if stamp != 0 {
+            return stamp;
+        }
+    }
+    let behind = past_empty(slab, n, m, place);
+    first_stamp(slab, n, m, behind)
+}
+
 // The oldest stamp.
 pub fn oldest(slab: &[u8], n: usize, m: usize, wrapped: bool) -> model::End
     requires { ⌜ Sized (now slab) n m ⌝ }
     ensures { λ r. ⌜ r ≡ oldest (ringOf (now (slab .entry)) wrapped) ⌝ }
 {
     let place = ring::first_place(slab, n, m, wrapped);
-    let stamp = first_stamp(slab, n, m, place);
+    let stamp = oldest_stamp(slab, n, m, place);
     end_of(stamp)
 }
 

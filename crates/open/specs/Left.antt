@@ -11,7 +11,7 @@ use lib.Seq.{sets}
 use Rattle.model.specs.declared.Row.{Row}
 use Rattle.model.specs.Bytes.{get}
 use Rattle.model.specs.Image.{rowAt, rowsFrom, rows, rowCount, rowSlots, rowPlace, openCheck}
-use Rattle.model.specs.Ring.{wrapFlag}
+use Rattle.model.specs.Ring.{cursor, anyStamp, wrapFlag}
 use Rattle.model.specs.Lent.{Lent, wrapFlags, openOn, opening}
 use Rattle.ring.specs.Parts.{Sized, sized}
 use Rattle.frame.specs.Rows.{length-rowsFrom}
@@ -81,3 +81,9 @@ module _ (l : Lent) where
       → flags ≡ wrapFlags (l .image) (rowsTo (l .image) n 0) ++ drop n (l .flags) → record { image = l .image; flags = flags } ≡ opening l
   unfolding opening openOn rowCount
   accepted-is e en b = rw (e, b, en, rows-all (l .image))
+
+-- ---- a ring's flag
+
+pub flag-is : (s : List ℕ) (n m : ℕ) → Sized s n m → {c : ℕ} → c ≡ cursor s → anyStamp s (c + 1) (n - (c + 1)) ≡ wrapFlag s
+unfolding wrapFlag
+flag-is s n m h e = rw (e, add-one (cursor s), h .slots-is)

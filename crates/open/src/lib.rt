@@ -1,10 +1,8 @@
 // Opening by value: the image's checks, then the first R flags worked out from the stamps above each cursor. Later flags stay; a refusal changes nothing.
 ghost use mathlib.Core.Path.{_≡_};
-ghost use mathlib.Core.Bool.{not};
 ghost use mathlib.Core.List.{_++_};
 ghost use Prim.Native.Nat.{_+_, _≤_};
 ghost use lib.ListN.{drop};
-ghost use lib.Dec.{eqb};
 ghost use Rattle.model.specs.Words.{outcomeNo};
 ghost use Rattle.model.specs.Bytes.{get};
 ghost use Rattle.model.specs.Image.{openCheck};
@@ -18,19 +16,6 @@ ghost use Rattle.image.specs.Lent.{lent};
 pub struct Opened {
     pub outcome: model::Outcome,
     pub flags: model::Flags,
-}
-
-// The stamps of four slots joined by `|`: 0 where each of them is 0.
-fn four_joined(slab: &[u8], n: usize, m: usize, slot: usize) -> u64
-    requires { ⌜ Sized (now slab) n m ⌝ }
-    requires { ⌜ slot + 4 ≤ n ⌝ }
-    ensures { λ r. ⌜ not (eqb r 0) ≡ anyStamp (now (slab .entry)) slot 4 ⌝ }
-{
-    let t0 = ring::stamp_of(slab, n, m, slot);
-    let t1 = ring::stamp_of(slab, n, m, slot + 1);
-    let t2 = ring::stamp_of(slab, n, m, slot + 2);
-    let t3 = ring::stamp_of(slab, n, m, slot + 3);
-    t0 | t1 | t2 | t3
 }
 
 // One of some slots from `first` on has a nonzero stamp: a slot at a time.
@@ -61,9 +46,7 @@ fn any_stamp(slab: &[u8], n: usize, m: usize, first: usize, count: usize) -> boo
     let mut slot = first;
     let mut left = count;
     while 8 <= left {
-        let low = four_joined(slab, n, m, slot);
-        let high = four_joined(slab, n, m, slot + 4);
-        let eight = low | high;
+        let eight = joined::eight(slab, n, m, slot);
         if eight != 0 {
             return true;
         }

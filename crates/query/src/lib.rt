@@ -28,7 +28,8 @@ fn seek(image: &[u8], handle: model::SeriesHandle, tier: u32, start: u64, end: u
         return Sought::Refused(model::Refusal::InvalidTier);
     }
     if start < end {
-        return Sought::Row(first + (tier as usize));
+        let row = first + (tier as usize);
+        return Sought::Row(row);
     }
     Sought::Refused(model::Refusal::InvalidTimeRange)
 }

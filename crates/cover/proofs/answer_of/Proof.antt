@@ -8,7 +8,7 @@ is-incomplete-requires : tie.Need-is-incomplete-requires
 is-incomplete-requires c κs = search needs
 
 returns : tie.Need-returns
-returns c = rw (c .before .is-incomplete .ensures) refl
+returns c = rw (c .is-incomplete .ensures) refl
 
 pub answer-of-spec : {M : Type 1} → statement M
 answer-of-spec = tie.close (tie.spec is-incomplete-requires returns)

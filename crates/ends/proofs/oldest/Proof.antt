@@ -7,8 +7,8 @@ use Rattle.ends.proofs.oldest.Tie as tie
 first-place-requires : tie.Need-first-place-requires
 first-place-requires c κs = search needs
 
-first-stamp-requires : tie.Need-first-stamp-requires
-first-stamp-requires c κs = search needs
+oldest-stamp-requires : tie.Need-oldest-stamp-requires
+oldest-stamp-requires c κs = search needs
 
 end-of-requires : tie.Need-end-of-requires
 end-of-requires c κs = search needs
@@ -19,4 +19,4 @@ returns c = cc (c .before .before .before .before .pre .slots-is)
 
 pub oldest-spec : {M : Type 1} → statement M
 oldest-spec =
-    tie.close (tie.spec first-place-requires first-stamp-requires end-of-requires returns)
+    tie.close (tie.spec first-place-requires oldest-stamp-requires end-of-requires returns)

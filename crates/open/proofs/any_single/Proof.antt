@@ -5,7 +5,7 @@ use mathlib.Core.Path.{_≡_, _∙_}
 use mathlib.Core.Bool.{not}
 use lib.Dec.{eqb}
 use Rattle.model.specs.Ring.{anyStamp}
-use Rattle.open.specs.Slots.{one-slot, piece-some, piece-none, piece-last}
+use Rattle.joined.specs.Slots.{one-slot, piece-some, piece-none, piece-last}
 use borrow.Author.Needs.{needs}
 use Rattle.open.proofs.any_single.Statement.{statement}
 use Rattle.open.proofs.any_single.Tie as tie

@@ -2,11 +2,8 @@
 use Prim.Native.Nat.{_+_, _≤_}
 use native.Mathlib.Omega.{arith}
 use mathlib.Core.Path.{_≡_, _∙_}
-use mathlib.Core.Bool.{not}
-use lib.Dec.{eqb}
-use lib.Bits.{bitOr}
 use Rattle.model.specs.Ring.{anyStamp}
-use Rattle.open.specs.Slots.{eight-slots, piece-some, piece-none}
+use Rattle.joined.specs.Slots.{piece-some, piece-none}
 use borrow.Author.Needs.{needs}
 use Rattle.open.proofs.any_stamp.Statement.{statement}
 use Rattle.open.proofs.any_stamp.Tie as tie
@@ -20,27 +17,13 @@ abbrev μ-loop : tie.MeasureT-loop
 loop-holds : tie.Need-loop-holds Inv-loop μ-loop
 loop-holds c = search needs
 
-four-joined-requires : tie.Need-four-joined-requires Inv-loop μ-loop
-four-joined-requires c κs = search needs
-
-add-four-joined : tie.Need-add-four-joined Inv-loop μ-loop
-add-four-joined c = search needs
-
-four-joined-requires-2 : tie.Need-four-joined-requires-2 Inv-loop μ-loop
-four-joined-requires-2 c κs = search needs
-
--- eight slots were met
-met : (c : tie.After-four-joined2 Inv-loop μ-loop) → let l = c .before .before .before .loop in not (eqb (bitOr (c .before .four-joined .result) (c .four-joined2 .result)) 0)
-    ≡ anyStamp (c .before .before .before .before .before .args .slab .now) (l .slot) 8
-met c =
-    let low = c .before .four-joined in
-    let high = c .four-joined2 in
-    eight-slots (c .before .before .before .before .before .args .slab .now) (c .before .before .before .loop .slot) (low .result) (high .result) (low .ensures) (high .ensures)
+eight-requires : tie.Need-eight-requires Inv-loop μ-loop
+eight-requires c κs = search needs
 
 returns : tie.Need-returns Inv-loop μ-loop
 returns c =
-    let l = c .before .before .before .before .loop in
-    piece-some _ (l .slot) (l .left) 8 (omega arith) _ (met (c .before)) (c .if1 .taken) ∙ l .inv .1
+    let l = c .before .before .before .loop in
+    piece-some _ (l .slot) (l .left) 8 (omega arith) _ (c .before .eight .ensures) (c .if1 .taken) ∙ l .inv .1
 
 add-slot : tie.Need-add-slot Inv-loop μ-loop
 add-slot c = search needs
@@ -50,8 +33,8 @@ loop-less c = search needs
 
 loop-again : tie.Need-loop-again Inv-loop μ-loop
 loop-again c =
-    let l = c .before .before .before .before .loop in
-    (omega arith, piece-none _ (l .slot) (l .left) 8 (omega arith) _ (met (c .before)) (c .if1 .left) ∙ l .inv .1)
+    let l = c .before .before .before .loop in
+    (omega arith, piece-none _ (l .slot) (l .left) 8 (omega arith) _ (c .before .eight .ensures) (c .if1 .left) ∙ l .inv .1)
 
 any-single-requires : tie.Need-any-single-requires Inv-loop μ-loop
 any-single-requires c κs = search needs
@@ -66,9 +49,7 @@ any-stamp-spec =
     Inv-loop
     μ-loop
     loop-holds
-    four-joined-requires
-    add-four-joined
-    four-joined-requires-2
+    eight-requires
     returns
     add-slot
     loop-less

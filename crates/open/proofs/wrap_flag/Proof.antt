@@ -1,6 +1,6 @@
 -- `open::wrap_flag` meets its contract: the search begins behind the cursor. Assumes nothing.
 use mathlib.Core.Path.{_∙_}
-use Rattle.open.specs.Slots.{flag-is}
+use Rattle.open.specs.Left.{flag-is}
 use borrow.Author.Needs.{needs}
 use Rattle.open.proofs.wrap_flag.Statement.{statement}
 use Rattle.open.proofs.wrap_flag.Tie as tie

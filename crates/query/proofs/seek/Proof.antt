@@ -50,8 +50,8 @@ returns-2 c =
     let none = ltb-false (a .tier) _ (sym (t .has-tier .ensures) ∙ not-true (t .has-tier .result) (c .if1 .taken)) in
     λ bs. bad-tier (a .image .now) bs (a .handle .schema) (a .handle .column) (a .start) (a .end) (start (t .before) .pre) (found (t .before)) (a .tier) none
 
-add-t16 : tie.Need-add-t16
-add-t16 c =
+add-row : tie.Need-add-row
+add-row c =
     let t = c .before .before in
     let a = start (t .before) .args in
     let some = ltb-true (a .tier) _ (sym (t .has-tier .ensures) ∙ not-false (t .has-tier .result) (c .before .if1 .left)) in
@@ -83,6 +83,6 @@ seek-spec =
     returns
     has-tier-requires
     returns-2
-    add-t16
+    add-row
     returns-3
     returns-4)

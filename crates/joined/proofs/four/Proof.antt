@@ -1,8 +1,8 @@
--- `open::four_joined` meets its contract: four slots read, in order. Assumes nothing.
+-- `joined::four` meets its contract: four slots read, in order. Assumes nothing.
 use borrow.Author.Needs.{needs}
-use Rattle.open.specs.Slots.{four-slots}
-use Rattle.open.proofs.four_joined.Statement.{statement}
-use Rattle.open.proofs.four_joined.Tie as tie
+use Rattle.joined.specs.Slots.{four-slots}
+use Rattle.joined.proofs.four.Statement.{statement}
+use Rattle.joined.proofs.four.Tie as tie
 
 stamp-of-requires : tie.Need-stamp-of-requires
 stamp-of-requires c κs = search needs
@@ -33,8 +33,8 @@ returns c =
     let a = first .before .before .args in
     four-slots (a .slab .now) (a .slot) (first .stamp-of .ensures) (second .stamp-of2 .ensures) (third .stamp-of3 .ensures) (c .stamp-of4 .ensures)
 
-pub four-joined-spec : {M : Type 1} → statement M
-four-joined-spec =
+pub four-spec : {M : Type 1} → statement M
+four-spec =
     tie.close
     (tie.spec
     stamp-of-requires

@@ -1,4 +1,4 @@
--- The slots above the cursor, met in pieces: one, four or eight at a time, the stamps of a piece joined by `|`. Assumes nothing.
+-- Slots met in pieces, one, four or eight at a time, the stamps of a piece joined by `|`: whether one of them has a nonzero stamp. Assumes nothing.
 use Prim.Native.Nat.{ℕ, zero, suc, _+_, _-_, _≤_}
 use native.Mathlib.Nat.{add-zero, zero-add, suc-add}
 use native.Mathlib.Numerals.{add-one}
@@ -10,8 +10,7 @@ use mathlib.Core.List.{List}
 use lib.Dec.{eqb}
 use lib.Bits.{bitOr, or-add-and, and-le-r}
 use Rattle.laws.specs.Tests.{no-eq}
-use Rattle.model.specs.Ring.{cursor, stamp, anyStamp, wrapFlag}
-use Rattle.ring.specs.Parts.{Sized}
+use Rattle.model.specs.Ring.{stamp, anyStamp}
 
 -- a number joined from two is not 0 where one of them is not
 pub or-some : (a b : ℕ) → not (eqb (bitOr a b) 0) ≡ not (eqb a 0) || not (eqb b 0)
@@ -67,9 +66,3 @@ module _ (s : List ℕ) where
   pub piece-last : (i : ℕ) → false ≡ anyStamp s i 0
   unfolding anyStamp
   piece-last i = refl
-
--- ---- the flag
-
-pub flag-is : (s : List ℕ) (n m : ℕ) → Sized s n m → {c : ℕ} → c ≡ cursor s → anyStamp s (c + 1) (n - (c + 1)) ≡ wrapFlag s
-unfolding wrapFlag
-flag-is s n m h e = rw (e, add-one (cursor s), h .slots-is)
