@@ -25,7 +25,7 @@ use Rattle.frame.specs.Tiers.{schema-le, tier-row}
 use Rattle.bits.specs.Bits.{bits}
 use Rattle.bits.specs.One.{lentAt}
 use Rattle.cover.specs.declared.Reach.{Reach}
-use Rattle.cover.specs.Reached.{lentBy, rowRing, row-ring, Reached, foundBy, AnswerIs, flagOf, ChosenIs, NotFirst}
+use Rattle.cover.specs.Reached.{row-ring, Reached, foundBy, AnswerIs, flagOf, ChosenIs, NotFirst}
 
 -- ---- a row's slab
 

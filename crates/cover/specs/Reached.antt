@@ -1,17 +1,17 @@
 -- The words of the contracts about a row's ring as a query finds it, whatever the other flags; about the choice of a tier; about the answer. Assumes nothing.
 use Prim.Native.Nat.{ℕ, _+_, _<_}
-use mathlib.Core.Path.{_≡_, refl}
+use mathlib.Core.Path.{_≡_}
 use mathlib.Core.Bool.{Bool, false}
 use mathlib.Core.List.{List}
 use lib.ListN.{length, getD}
 use Rattle.model.specs.declared.Found.{Found}
 use Rattle.model.specs.declared.Place.{Place}
 use Rattle.model.specs.declared.Queried.the-variants.{Answer}
-use Rattle.model.specs.Image.{rowAt, rowCount, rows, tiersOf, slabOf}
+use Rattle.model.specs.Image.{rowAt, rows, tiersOf, slabOf}
 use Rattle.model.specs.Ring.{Ring, firstPlace, oldest, newest}
 use Rattle.model.specs.Read.{full, incomplete}
 use Rattle.model.specs.Lent.{Lent, firstRow, ring, row}
-use Rattle.model.specs.Query.{choose, readerOn, answered, repliedBy, found}
+use Rattle.model.specs.Query.{choose, answered, repliedBy, found}
 use Rattle.ring.specs.Parts.{ringOf}
 use Rattle.bits.specs.Bits.{bits}
 use Rattle.bits.specs.One.{lentAt}

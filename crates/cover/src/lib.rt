@@ -42,7 +42,7 @@ pub fn has_tier(image: &[u8], schema: u64, first: usize, tier: usize) -> bool
 }
 
 // A row's ring, whose flag is `wrapped`.
-pub fn ring_at(image: &[u8], row: usize, wrapped: bool) -> Reach
+fn ring_at(image: &[u8], row: usize, wrapped: bool) -> Reach
     requires { ⌜ openCheck (now image) ≡ 0 ⌝ }
     requires { ⌜ row < rowCount (now image) ⌝ }
     ensures { λ r. ⌜ Reached (now (image .entry)) row wrapped r ⌝ }

@@ -10,7 +10,6 @@ use borrow.Author.Tests.{not-true, not-false}
 use Rattle.model.specs.Image.{rowCount, rows, tiersOf}
 use Rattle.laws.specs.Tests.{lt-is}
 use Rattle.lent.proofs.Laws.{few-rows}
-use Rattle.cover.specs.Reached.{NotFirst}
 use Rattle.cover.proofs.Laws.{tier-there, Choosing, behind-first, chosen-best, chosen-here, best-here, best-stays}
 use borrow.Author.Needs.{needs}
 use Rattle.cover.proofs.choose_behind.Statement.{statement}

@@ -1,7 +1,7 @@
 -- `cover::has_tier` meets its contract: past the rows, or by the row's schema. Assumes nothing.
 use Prim.Native.Nat.{_+_}
 use native.Mathlib.Omega.{arith}
-use mathlib.Core.Path.{ap, sym, _∙_}
+use mathlib.Core.Path.{ap, _∙_}
 use lib.Dec.{eqb}
 use Rattle.model.specs.Image.{rowCount, rowPlace}
 use Rattle.lent.proofs.Laws.{header-in-slice, few-rows, row-in-slice}
