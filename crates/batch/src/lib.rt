@@ -99,11 +99,11 @@ pub fn batch_opened(image: &mut [u8], flags: u32, batch: &[u8], stamp: u64) -> b
     }
 }
 
-// Records a batch, with the flags as a number, by the plain check.
-fn record_plainly(image: &mut [u8], flags: u32, batch: &[u8], stamp: u64) -> bits::Numbered
+// Records a batch, with the flags as a number.
+fn record_numbered(image: &mut [u8], flags: u32, batch: &[u8], stamp: u64) -> bits::Numbered
     ensures { λ r. ⌜ BatchDone (lentAt (now (image .entry)) flags) (entries (now (batch .entry))) stamp (outcomeNo (r .outcome)) (lentAt (now (image .exit)) (r .flags)) ⌝ }
 {
-    let opened = image::check_image(image);
+    let opened = checked::check_image(image);
     let model::Outcome::Accepted = opened else {
         return bits::Numbered {
             outcome: opened,
@@ -111,17 +111,6 @@ fn record_plainly(image: &mut [u8], flags: u32, batch: &[u8], stamp: u64) -> bit
         };
     };
     batch_opened(image, flags, batch, stamp)
-}
-
-// Records a batch, with the flags as a number.
-fn record_numbered(image: &mut [u8], flags: u32, batch: &[u8], stamp: u64) -> bits::Numbered
-    ensures { λ r. ⌜ BatchDone (lentAt (now (image .entry)) flags) (entries (now (batch .entry))) stamp (outcomeNo (r .outcome)) (lentAt (now (image .exit)) (r .flags)) ⌝ }
-{
-    let good = quick::is_good(image);
-    if good {
-        return batch_opened(image, flags, batch, stamp);
-    }
-    record_plainly(image, flags, batch, stamp)
 }
 
 // Records a batch.

@@ -82,26 +82,15 @@ pub fn ready_opened(image: &[u8], handle: model::SeriesHandle, value: u64, stamp
     Target::Row(row)
 }
 
-// Where a value goes, by the plain check.
-fn ready_plainly(image: &[u8], handle: model::SeriesHandle, value: u64, stamp: u64) -> Target
+// Where a value goes: opening's check first.
+pub fn ready(image: &[u8], handle: model::SeriesHandle, value: u64, stamp: u64) -> Target
     ensures { λ r. ⌜ Readied (now (image .entry)) (handle .schema) (handle .column) value stamp r ⌝ }
 {
-    let opened = image::check_image(image);
+    let opened = checked::check_image(image);
     match opened {
         model::Outcome::Accepted => ready_opened(image, handle, value, stamp),
         model::Outcome::Refused(r) => Target::Refused(r),
     }
-}
-
-// Where a value goes: the quick check first, else the plain one.
-pub fn ready(image: &[u8], handle: model::SeriesHandle, value: u64, stamp: u64) -> Target
-    ensures { λ r. ⌜ Readied (now (image .entry)) (handle .schema) (handle .column) value stamp r ⌝ }
-{
-    let good = quick::is_good(image);
-    if good {
-        return ready_opened(image, handle, value, stamp);
-    }
-    ready_plainly(image, handle, value, stamp)
 }
 
 // Records one value.

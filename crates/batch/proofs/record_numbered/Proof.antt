@@ -1,22 +1,33 @@
--- `batch::record_numbered` meets its contract: where all is good the batch goes on at once, else the plain check decides. Assumes nothing.
+-- `batch::record_numbered` meets its contract: opening's refusal, or what `batch_opened` does. Assumes nothing.
+use mathlib.Core.Path.{_≡_, sym, ap, _∙_}
+use Rattle.model.specs.Words.{outcomeNo}
+use Rattle.model.specs.Record.{entries}
+use Rattle.bits.specs.One.{lentAt}
+use Rattle.rows.specs.First.{not-accepted}
+use Rattle.batch.proofs.Laws.{not-opened}
 use borrow.Author.Needs.{needs}
 use Rattle.batch.proofs.record_numbered.Statement.{statement}
 use Rattle.batch.proofs.record_numbered.Tie as tie
 
-is-good-requires : tie.Need-is-good-requires
-is-good-requires c κs = search needs
+check-image-requires : tie.Need-check-image-requires
+check-image-requires c κs = search needs
 
-batch-opened-requires : tie.Need-batch-opened-requires
-batch-opened-requires c κs = c .before .before .is-good .ensures (c .before .if1 .taken)
+enum-told : tie.Need-enum-told
+enum-told c = search needs
+
+enum-told-2 : tie.Need-enum-told-2
+enum-told-2 c = search needs
 
 same-length : tie.Need-same-length
 same-length c = search needs
 
 returns : tie.Need-returns
-returns c = search needs
+returns c =
+    let start = c .before .before .before .before .before .before in
+    not-opened (lentAt (start .args .image .now) (start .args .flags)) (start .args .stamp) (entries (start .args .batch .now)) (outcomeNo (c .before .before .check-image .result)) (c .before .before .check-image .ensures) (not-accepted (c .enum-told2 .given .1))
 
-record-plainly-requires : tie.Need-record-plainly-requires
-record-plainly-requires c κs = search needs
+batch-opened-requires : tie.Need-batch-opened-requires
+batch-opened-requires c κs = sym (c .before .before .before .check-image .ensures) ∙ ap outcomeNo (c .before .enum-told .given .1)
 
 same-length-2 : tie.Need-same-length-2
 same-length-2 c = search needs
@@ -28,10 +39,11 @@ pub record-numbered-spec : {M : Type 1} → statement M
 record-numbered-spec =
     tie.close
     (tie.spec
-    is-good-requires
-    batch-opened-requires
+    check-image-requires
+    enum-told
+    enum-told-2
     same-length
     returns
-    record-plainly-requires
+    batch-opened-requires
     same-length-2
     returns-2)
