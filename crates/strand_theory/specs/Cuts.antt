@@ -1,4 +1,4 @@
--- Where a reading of a source has to be cut, so that its windows never fall in reading order: how many passes a run makes over a source. Assumes nothing.
+-- Where a reading of a source has to be cut, so that its windows never fall in reading order: in how many parts a run reads a source. Assumes nothing.
 use Prim.Native.Nat.{ℕ, suc, _/_, _≤_, _<_}
 use mathlib.Core.Path.{_≡_}
 use mathlib.Core.Logic.{_⊎_, _≢_}

@@ -1,1 +1,1 @@
-// How many passes a run makes over a source. It stands in specs/; there is no code here.
+// In how many parts a run reads a source whose stamps fall. It stands in specs/; there is no code here.

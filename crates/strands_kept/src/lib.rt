@@ -1,1 +1,1 @@
-// How many passes a run makes over a source that this library wrote: the proof stands in specs/Theorem.antt. No code.
+// In how many parts a run reads a source that this library wrote: the proofs stand in specs/Theorem.antt and Short.antt. No code.
