@@ -15,9 +15,10 @@
  * during the call. Stamps are nanoseconds. Values are doubles by their 64-bit pattern:
  * rondo_bits and rondo_double convert.
  *
- * Every call but creation checks the table and each ring's header again, some nanoseconds a row, and
- * changes nothing before all is good. So the fast ways are those that do much in a call: a batch for
- * the values of one stamp (rondo_record_batch), and many points a call (rondo_read).
+ * Opening, both ways to record, both queries and a run check the table and each ring's header again,
+ * some nanoseconds a row, and change nothing before all is good; a reader's step checks its ring's
+ * header. So the fast ways are those that do much in a call: a batch for the values of one stamp
+ * (rondo_record_batch), and many points a call (rondo_read).
  *
  * Link libedge.a (x86-64 Linux). Each function here has the contract that is proved of it in
  * crates/edge/src/lib.rt.
@@ -215,9 +216,10 @@ static inline uint32_t rondo_next_point(const uint8_t *image, struct rondo_answe
 }
 
 /*
- * Many steps in one call, which is the fast way to read (32 points a call take half as long as 32
- * calls of rondo_next): stores the next points of a reader, as many as `words_len` / 2 has room for, moves *place past them and answers how many there are. Fewer than there is room for: the
- * reader is at its end. Words past the stored points are left.
+ * Many steps in one call, which is the fast way to read: 32 points a call take little more than half
+ * as long as 32 calls of rondo_next. Stores the next points of a reader, as many as `words_len` / 2
+ * has room for, moves *place past them and answers how many there are. Fewer than there is room for:
+ * the reader is at its end. Words past the stored points are left.
  */
 size_t rondo_read(const uint8_t *slab, size_t slab_len, uint32_t column,
                   uint64_t start, uint64_t end,
@@ -239,13 +241,16 @@ static inline size_t rondo_read_points(const uint8_t *image, struct rondo_answer
  * coarsest hold two of the coarsest intervals. Refuses 16, 10, 12, 13 by pair of tiers: what it did
  * before stays, *count is left.
  *
- * What it costs: each ring but the coarsest is gone over twice, about a nanosecond a stamp each time;
- * then the samples from the start of the window that the last run ended in are read, or all if there
- * was no run. In an image that these calls wrote, however many samples were missed or came late:
- * where those span up to m times what the ring holds, it is gone over at most 2 m times in all (once
- * more where that window is the first of all time). An image that came from elsewhere may have its
- * stamps in any order, and is then gone over as often as it has windows, at the worst as many as its
- * slots: do not run one that you do not trust where nothing may wait.
+ * What it costs: every stamp of each ring but the coarsest is looked at, then the samples from the
+ * start of the window that the last run ended in (all, if there was no run) are read, once for their
+ * windows and once for each series. In an image that these calls wrote, however many samples were
+ * missed or came late: where the time from there to the newest sample is up to m times what the ring
+ * holds, this is done in at most 2 m - 1 parts, so in one where it is no longer than the ring (one
+ * more where that window is the first of all time). Each part goes over the ring's stamps once to be
+ * found and at most once more to be read, about a nanosecond a stamp, and for each series over the
+ * slots of its windows. An image that came from elsewhere may need as many parts as it has windows,
+ * at the worst as many as its slots, each over the whole ring and for every series: do not run one
+ * that you do not trust where nothing may wait.
  */
 uint32_t rondo_consolidate(uint8_t *image, size_t image_len, uint32_t *flags, uint64_t *count);
 

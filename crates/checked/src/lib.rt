@@ -1,5 +1,5 @@
-// The check that a call by value begins with, as its outcome. The calls for C ask `quick::check`, which gives the same answer as a number; so does this, so that
-// all calls share one copy of it. What it refuses is asked for once more, by the plain check.
+// The check that a call by value begins with, as its outcome. It asks `quick::check`, as record, record_batch and the queries for C do, so that all calls share
+// one copy of it; a refusal is asked for once more, by the plain check, for its name.
 ghost use mathlib.Core.Path.{_≡_};
 ghost use Rattle.model.specs.Words.{outcomeNo};
 ghost use Rattle.model.specs.Image.{openCheck};

@@ -1,5 +1,5 @@
 // A pair's writes. Where the windows of the source's stamps never fall in reading order, they are runs of slots, one behind the other: each stamp is read once
-// for its window and once for each column. Where they fall, the range is read in parts, strand by strand, each of which has windows that never fall.
+// to find the part, once for its window and once for each column. Where they fall, the range is read in parts, strand by strand, each of which has windows that never fall.
 ghost use mathlib.Core.Path.{_≡_};
 ghost use Prim.Native.Nat.{_+_, _*_, _<_, _≤_, _^_};
 ghost use Rattle.model.specs.declared.Outcome.the-variants.{Accepted};

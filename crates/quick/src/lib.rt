@@ -1,6 +1,6 @@
 // A quick pass over header, rows and slab headers that only says "all good": then opening's check passes. Where it does not say so, the plain check in document
 // 01's order decides. So it may leave rare shapes to the plain check: a slab of 2^27 slots or more and a tier that holds 137 years or more, so that no product
-// can wrap and no row is divided. Two fields that stand side by side are read as one word (`pair`), and what the rows of a schema share is carried from row to
+// can wrap and no row is divided, and an image of 2^40 bytes. Two fields that stand side by side are read as one word (`pair`), and what the rows of a schema share is carried from row to
 // row (`Shared`). A store of one schema with at most four rows has a loop of its own (`few_good`), which the compiler writes out row by row. `check` asks this
 // pass, then the plain check.
 ghost use mathlib.Core.Path.{_≡_};
@@ -303,7 +303,7 @@ fn few_good(s: &[u8], n: usize, total: usize, first: Shared) -> bool
 }
 
 // All good: opening's check passes.
-pub fn is_good(s: &[u8]) -> bool
+fn is_good(s: &[u8]) -> bool
     ensures { λ b. ⌜ (b ≡ true → openCheck (now (s .entry)) ≡ 0) ⌝ }
 {
     let headed = head_good(s);

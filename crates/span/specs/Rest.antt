@@ -1,4 +1,4 @@
--- A source read in order. Where its stamps in the range never fall in reading order, the windows that the search finds are those of the runs, in their order:
+-- A source read in order. Where the windows of its stamps in the range never fall in reading order, the windows that the search finds are those of the runs, in their order:
 -- the window of the first slot that is left is the next one found, the slots up to the first of a later window have all that it has, and as many turns as
 -- there are slots are enough. Assumes nothing.
 use Prim.Native.Nat.{ℕ, zero, suc, _+_, _-_, _≤_, _<_}
@@ -128,7 +128,7 @@ module _ (q : Job) where
       let h = held q w (stampOf i) (cell (q .source .slab) c i) in
       record { seen-is = ap (λ (x : ℕ). seenOne h + x) (k .seen-is); finite-is = ap (keepFinite h) (k .finite-is) }
 
-  -- ---- stamps that never fall
+  -- ---- windows that never fall
 
   abbrev Above : ℕ → List ℕ → Type 0
   Above low [] = Unit {0}

@@ -1,5 +1,6 @@
 // A source whose windows never fall in reading order, met window by window: the slots before a limit are passed over, and the slots of one window are a run.
-// `specs/Rest.antt` has the laws: such runs are the windows that the search finds, in its order, and a run has all that its window has.
+// `specs/Rest.antt` has the laws: such runs are the windows that the search finds, in its order, and a run has all that its window has. `next_strand` finds the
+// greatest part of a range that is such a source (`specs/Strand.antt`).
 ghost use mathlib.Core.Path.{_≡_};
 ghost use Prim.Native.Nat.{_+_, _%_, _<_, _≤_};
 ghost use Rattle.window.specs.Parts.{Readable, jobIn};
@@ -136,7 +137,7 @@ fn slot_at(n: usize, v: usize) -> usize
     v - n
 }
 
-// The part from `start` on, met from the last slot to the first, `head` being the first met of it. A window above the least of those behind it falls out of the
+// The part from `start` on, met from the last slot to the first, `head` being its first slot so far. A window above the least of those behind it falls out of the
 // part, and the end comes down to it.
 fn edge_of(slab: &[u8], q: window::Reading, start: u64, place: model::Place) -> Edge
     requires { ⌜ Readable (now slab) q ⌝ }

@@ -1,5 +1,5 @@
 // A window's answer for one column of a source: one pass over slots in ring order gathers the counts and the fold of the finite values; then no value, a
-// number, or NaN because nothing finite remained. The caller says which slots: the whole reading order, or a run of it that has all of the window.
+// number, or NaN because nothing finite remained. The caller says which slots: a run of the reading order that has all of the window.
 // `gather_values` alone says what the pass finds, so that another way to find it changes nothing else.
 ghost use mathlib.Core.Path.{_≡_};
 ghost use Prim.Native.Nat.{_/_, _%_, _^_, _<_, _≤_};

@@ -24,7 +24,8 @@ same-length c = search needs
 returns : tie.Need-returns
 returns c =
     let start = c .before .before .before .before .before .before in
-    not-opened (lentAt (start .args .image .now) (start .args .flags)) (start .args .stamp) (entries (start .args .batch .now)) (outcomeNo (c .before .before .check-image .result)) (c .before .before .check-image .ensures) (not-accepted (c .enum-told2 .given .1))
+    not-opened (lentAt (start .args .image .now) (start .args .flags)) (start .args .stamp) (entries (start .args .batch .now)) (outcomeNo (c .before .before .check-image .result))
+    (c .before .before .check-image .ensures) (not-accepted (c .enum-told2 .given .1))
 
 batch-opened-requires : tie.Need-batch-opened-requires
 batch-opened-requires c κs = sym (c .before .before .before .check-image .ensures) ∙ ap outcomeNo (c .before .enum-told .given .1)

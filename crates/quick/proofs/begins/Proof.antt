@@ -31,7 +31,12 @@ returns-2 : tie.Need-returns-2
 returns-2 c = tt
 
 returns-3 : tie.Need-returns-3
-returns-3 c = record { begun = good-is (Begun (c .before .before .before .before .before .before .before .args .s .now) 0 0) (c .before .before .before .first .given .1) (c .before .before .before .before .before .starts .ensures); here = c .before .place-good .ensures (not-false _ (c .if1 .left)) }
+returns-3 c =
+    let asked = c .before .before .before .before .before in
+    record {
+      begun = good-is (Begun (asked .before .before .args .s .now) 0 0) (c .before .before .before .first .given .1) (asked .starts .ensures);
+      here = c .before .place-good .ensures (not-false _ (c .if1 .left));
+    }
 
 pub begins-spec : {M : Type 1} → statement M
 begins-spec =

@@ -26,7 +26,8 @@ returns-2 : tie.Need-returns-2
 returns-2 c =
     let start = c .before .before .before .before .before in
     let r = c .before .opened .given .0 .0 in
-    λ bs. unopened (start .args .image .now) bs (start .args .handle .schema) (start .args .handle .column) (start .args .value) (start .args .stamp) (numberOf r) (refusal-no r) (sym (ap outcomeNo (c .before .opened .given .1)) ∙ c .before .before .before .check-image .ensures)
+    λ bs. unopened (start .args .image .now) bs (start .args .handle .schema) (start .args .handle .column) (start .args .value) (start .args .stamp) (numberOf r) (refusal-no r)
+    (sym (ap outcomeNo (c .before .opened .given .1)) ∙ c .before .before .before .check-image .ensures)
 
 pub ready-spec : {M : Type 1} → statement M
 ready-spec =
