@@ -216,8 +216,8 @@ static inline uint32_t rondo_next_point(const uint8_t *image, struct rondo_answe
 }
 
 /*
- * Many steps in one call, which is the fast way to read: 32 points a call take little more than half
- * as long as 32 calls of rondo_next. Stores the next points of a reader, as many as `words_len` / 2
+ * Many steps in one call, which is the fast way to read: 32 points a call take about half as long as
+ * 32 calls of rondo_next. Stores the next points of a reader, as many as `words_len` / 2
  * has room for, moves *place past them and answers how many there are. Fewer than there is room for:
  * the reader is at its end. Words past the stored points are left.
  */
