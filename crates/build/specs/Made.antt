@@ -48,54 +48,27 @@ module _ (r : Row) where
   abbrev a9 : List ℕ
   a9 = a8 ++ bytes 8 (r .mark)
 
-  l1 : length a1 ≡ 4
-  l1 = length-bytes 4 (r .schema)
-
-  l2 : length a2 ≡ 8
-  l2 = longer a1 (bytes 4 (r .tier)) 4 4 l1 (length-bytes 4 (r .tier))
-
-  l3 : length a3 ≡ 16
-  l3 = longer a2 (bytes 8 (r .interval)) 8 8 l2 (length-bytes 8 (r .interval))
-
-  l4 : length a4 ≡ 24
-  l4 = longer a3 (bytes 8 (r .retention)) 16 8 l3 (length-bytes 8 (r .retention))
-
-  l5 : length a5 ≡ 28
-  l5 = longer a4 (bytes 4 (r .function)) 24 4 l4 (length-bytes 4 (r .function))
-
-  l6 : length a6 ≡ 32
-  l6 = longer a5 (bytes 4 (r .series)) 28 4 l5 (length-bytes 4 (r .series))
-
-  l7 : length a7 ≡ 40
-  l7 = longer a6 (bytes 8 (r .offset)) 32 8 l6 (length-bytes 8 (r .offset))
-
-  l8 : length a8 ≡ 48
-  l8 = longer a7 (bytes 8 (r .len)) 40 8 l7 (length-bytes 8 (r .len))
-
-  l9 : length a9 ≡ 56
-  l9 = longer a8 (bytes 8 (r .mark)) 48 8 l8 (length-bytes 8 (r .mark))
-
   pub length-row : length (rowBytes r) ≡ 64
   unfolding rowBytes
-  length-row = longer a9 (bytes 8 (r .hash)) 56 8 l9 (length-bytes 8 (r .hash))
+  length-row = simp (length-append, length-bytes)
 
   pub low-made : (s : List ℕ) {x1 x2 x3 x4 x5 : List ℕ} → x1 ≡ put 4 s 0 (r .schema) → x2 ≡ put 4 x1 4 (r .tier) → x3 ≡ put 8 x2 8 (r .interval)
       → x4 ≡ put 8 x3 16 (r .retention) → x5 ≡ put 4 x4 24 (r .function) → x5 ≡ splice s 0 a5
   low-made s e1 e2 e3 e4 e5 =
       let g1 = e1 ∙ put-splice 4 s 0 (r .schema) in
-      let g2 = e2 ∙ put-grow s a1 4 4 (r .tier) g1 l1 in
-      let g3 = e3 ∙ put-grow s a2 8 8 (r .interval) g2 l2 in
-      let g4 = e4 ∙ put-grow s a3 8 16 (r .retention) g3 l3 in
-      e5 ∙ put-grow s a4 4 24 (r .function) g4 l4
+      let g2 = e2 ∙ put-grow s a1 4 4 (r .tier) g1 (simp (length-append, length-bytes)) in
+      let g3 = e3 ∙ put-grow s a2 8 8 (r .interval) g2 (simp (length-append, length-bytes)) in
+      let g4 = e4 ∙ put-grow s a3 8 16 (r .retention) g3 (simp (length-append, length-bytes)) in
+      e5 ∙ put-grow s a4 4 24 (r .function) g4 (simp (length-append, length-bytes))
 
   pub row-made : (s : List ℕ) {x5 x6 x7 x8 x9 x10 : List ℕ} → length s ≡ 64 → x5 ≡ splice s 0 a5 → x6 ≡ put 4 x5 28 (r .series) → x7 ≡ put 8 x6 32 (r .offset) → x8 ≡ put 8 x7 40 (r .len)
       → x9 ≡ put 8 x8 48 (r .mark) → x10 ≡ put 8 x9 56 (r .hash) → x10 ≡ rowBytes r
   row-made s h e5 e6 e7 e8 e9 e10 =
-      let g6 = e6 ∙ put-grow s a5 4 28 (r .series) e5 l5 in
-      let g7 = e7 ∙ put-grow s a6 8 32 (r .offset) g6 l6 in
-      let g8 = e8 ∙ put-grow s a7 8 40 (r .len) g7 l7 in
-      let g9 = e9 ∙ put-grow s a8 8 48 (r .mark) g8 l8 in
-      e10 ∙ put-grow s a9 8 56 (r .hash) g9 l9 ∙ whole
+      let g6 = e6 ∙ put-grow s a5 4 28 (r .series) e5 (simp (length-append, length-bytes)) in
+      let g7 = e7 ∙ put-grow s a6 8 32 (r .offset) g6 (simp (length-append, length-bytes)) in
+      let g8 = e8 ∙ put-grow s a7 8 40 (r .len) g7 (simp (length-append, length-bytes)) in
+      let g9 = e9 ∙ put-grow s a8 8 48 (r .mark) g8 (simp (length-append, length-bytes)) in
+      e10 ∙ put-grow s a9 8 56 (r .hash) g9 (simp (length-append, length-bytes)) ∙ whole
     where
       whole : splice s 0 (a9 ++ bytes 8 (r .hash)) ≡ rowBytes r
       whole = unfold rowBytes in (splice-whole s (a9 ++ bytes 8 (r .hash)) (length-row ∙ sym h))

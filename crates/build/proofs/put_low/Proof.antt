@@ -4,6 +4,22 @@ use borrow.Author.Needs.{needs}
 use Rattle.build.proofs.put_low.Statement.{statement}
 use Rattle.build.proofs.put_low.Tie as tie
 
+-- where each field is put, from the last back to the first
+abbrev at-retention : tie.After-put-u323 → tie.After-put-u642
+at-retention c = c .before .before .before .before .before
+
+abbrev at-interval : tie.After-put-u642 → tie.After-put-u64
+at-interval c = c .before .before .before .before
+
+abbrev at-tier : tie.After-put-u64 → tie.After-put-u322
+at-tier c = c .before .before .before .before
+
+abbrev at-schema : tie.After-put-u322 → tie.After-put-u32
+at-schema c = c .before .before .before .before .before
+
+abbrev start : tie.After-put-u32 → tie.Start
+start c = c .before .before .before .before
+
 cast-put-u32 : tie.Need-cast-put-u32
 cast-put-u32 c = search needs
 
@@ -32,7 +48,14 @@ same-length : tie.Need-same-length
 same-length c = search needs
 
 returns : tie.Need-returns
-returns c = let a = c .before .before .before .before .before .before .before .before .before .before .before .before .before .before .before .before .before .before .before .before .before .before .before .before .args in low-made (a .r) (a .row .now) (c .before .before .before .before .before .before .before .before .before .before .before .before .before .before .before .before .before .before .before .before .put-u32 .ensures) (c .before .before .before .before .before .before .before .before .before .before .before .before .before .before .before .put-u322 .ensures) (c .before .before .before .before .before .before .before .before .before .before .before .put-u64 .ensures) (c .before .before .before .before .before .before .before .put-u642 .ensures) (c .before .before .put-u323 .ensures)
+returns c =
+    let function = c .before .before in
+    let retention = at-retention function in
+    let interval = at-interval retention in
+    let tier = at-tier interval in
+    let schema = at-schema tier in
+    let a = start schema .args in
+    low-made (a .r) (a .row .now) (schema .put-u32 .ensures) (tier .put-u322 .ensures) (interval .put-u64 .ensures) (retention .put-u642 .ensures) (function .put-u323 .ensures)
 
 pub put-low-spec : {M : Type 1} → statement M
 put-low-spec =

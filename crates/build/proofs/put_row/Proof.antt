@@ -4,6 +4,25 @@ use borrow.Author.Needs.{needs}
 use Rattle.build.proofs.put_row.Statement.{statement}
 use Rattle.build.proofs.put_row.Tie as tie
 
+-- where each field is put, from the last back to the first five
+abbrev at-mark : tie.After-put-u644 → tie.After-put-u643
+at-mark c = c .before .before .before .before
+
+abbrev at-len : tie.After-put-u643 → tie.After-put-u642
+at-len c = c .before .before .before .before
+
+abbrev at-offset : tie.After-put-u642 → tie.After-put-u64
+at-offset c = c .before .before .before .before
+
+abbrev at-series : tie.After-put-u64 → tie.After-put-u32
+at-series c = c .before .before .before .before
+
+abbrev at-low : tie.After-put-u32 → tie.After-put-low
+at-low c = c .before .before .before .before .before
+
+abbrev start : tie.After-put-low → tie.Start
+start c = c .before .before .before
+
 put-low-requires : tie.Need-put-low-requires
 put-low-requires c κs = search needs
 
@@ -29,7 +48,16 @@ same-length : tie.Need-same-length
 same-length c = search needs
 
 returns : tie.Need-returns
-returns c = let a = c .before .before .before .before .before .before .before .before .before .before .before .before .before .before .before .before .before .before .before .before .before .before .before .before .before .before .args in row-made (a .r) (a .row .now) (c .before .before .before .before .before .before .before .before .before .before .before .before .before .before .before .before .before .before .before .before .before .before .before .before .before .before .pre) (c .before .before .before .before .before .before .before .before .before .before .before .before .before .before .before .before .before .before .before .before .before .before .before .put-low .ensures) (c .before .before .before .before .before .before .before .before .before .before .before .before .before .before .before .before .before .before .put-u32 .ensures) (c .before .before .before .before .before .before .before .before .before .before .before .before .before .before .put-u64 .ensures) (c .before .before .before .before .before .before .before .before .before .before .put-u642 .ensures) (c .before .before .before .before .before .before .put-u643 .ensures) (c .before .before .put-u644 .ensures)
+returns c =
+    let hash = c .before .before in
+    let mark = at-mark hash in
+    let len = at-len mark in
+    let offset = at-offset len in
+    let series = at-series offset in
+    let low = at-low series in
+    let a = start low .args in
+    row-made (a .r) (a .row .now) (start low .pre) (low .put-low .ensures) (series .put-u32 .ensures) (offset .put-u64 .ensures)
+    (len .put-u642 .ensures) (mark .put-u643 .ensures) (hash .put-u644 .ensures)
 
 pub put-row-spec : {M : Type 1} → statement M
 put-row-spec =
