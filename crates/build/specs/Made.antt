@@ -1,77 +1,53 @@
 -- The fresh image, part behind part: a row's bytes, the rows, the slabs, the whole, and their lengths. Assumes nothing.
-use Prim.Native.Nat.{ℕ, zero, suc, _+_, _*_, _-_, _≤_, _<_}
+use Prim.Native.Nat.{ℕ, suc, _+_, _*_, _-_, _≤_, _<_}
 use native.Mathlib.Nat.{sub-zero}
 use native.Mathlib.Numerals.{add-one}
 use native.Mathlib.Omega.{arith}
 use mathlib.Core.Path.{_≡_, refl, sym, ap, _∙_}
 use mathlib.Core.List.{List, [], _∷_, _++_}
-use lib.ListN.{length, take, drop, set, getD, replicate, length-append}
+use lib.ListN.{length, take, drop, set, getD, replicate, length-append, length-replicate}
 use lib.Seq.{drop-cons, length-take-le}
 use Rattle.model.specs.declared.Row.{Row}
 use Rattle.model.specs.Bytes.{bytes, part, splice, put, get}
-use Rattle.model.specs.Layout.{freshSlab, slabLength}
-use Rattle.model.specs.Image.{rows, rowCount, rowPlace, rowAt, rowSlots, rowLength, rowBytes, placedRow, placedRows, allRows, slabsEnd, imageLength, freshSlabs, freshImage}
+use Rattle.model.specs.Layout.{freshSlab}
+use Rattle.model.specs.Image.{rowCount, rowPlace, rowAt, rowSlots, rowLength, rowBytes, placedRow, placedRows, allRows, slabsEnd, imageLength, freshSlabs, freshImage}
 use borrow.Rule.Slice.PartMut.{putMid}
-use Rattle.laws.specs.Bytes.{splice-nil, splice-cons, splice-append, splice-front, splice-whole, grow, length-bytes, length-splice, length-part, lent-splice}
+use Rattle.laws.specs.Bytes.{splice-nil, splice-cons, splice-append, splice-front, splice-whole, length-bytes, length-splice, length-part, lent-splice}
 use Rattle.frame.specs.Rows.{length-rowsFrom}
 use Rattle.rows.specs.Rows.{rowsTo, rows-all, rows-step, rows-end}
 use Rattle.layout.specs.Ends.{capped, ends-more}
-use Rattle.slab.specs.Fresh.{put-splice, put-grow, longer, length-fresh}
+use Rattle.slab.specs.Fresh.{put-splice, Front, front-none, front-field, front-part, length-fresh}
 
 -- ---- a row
 
 module _ (r : Row) where
-  abbrev a1 : List ℕ
-  a1 = bytes 4 (r .schema)
-
-  abbrev a2 : List ℕ
-  a2 = a1 ++ bytes 4 (r .tier)
-
-  abbrev a3 : List ℕ
-  a3 = a2 ++ bytes 8 (r .interval)
-
-  abbrev a4 : List ℕ
-  a4 = a3 ++ bytes 8 (r .retention)
-
-  abbrev a5 : List ℕ
-  a5 = a4 ++ bytes 4 (r .function)
-
-  abbrev a6 : List ℕ
-  a6 = a5 ++ bytes 4 (r .series)
-
-  abbrev a7 : List ℕ
-  a7 = a6 ++ bytes 8 (r .offset)
-
-  abbrev a8 : List ℕ
-  a8 = a7 ++ bytes 8 (r .len)
-
-  abbrev a9 : List ℕ
-  a9 = a8 ++ bytes 8 (r .mark)
+  -- the first five fields
+  abbrev low : List ℕ
+  low = bytes 4 (r .schema) ++ bytes 4 (r .tier) ++ bytes 8 (r .interval) ++ bytes 8 (r .retention) ++ bytes 4 (r .function)
 
   pub length-row : length (rowBytes r) ≡ 64
   unfolding rowBytes
   length-row = simp (length-append, length-bytes)
 
   pub low-made : (s : List ℕ) {x1 x2 x3 x4 x5 : List ℕ} → x1 ≡ put 4 s 0 (r .schema) → x2 ≡ put 4 x1 4 (r .tier) → x3 ≡ put 8 x2 8 (r .interval)
-      → x4 ≡ put 8 x3 16 (r .retention) → x5 ≡ put 4 x4 24 (r .function) → x5 ≡ splice s 0 a5
+      → x4 ≡ put 8 x3 16 (r .retention) → x5 ≡ put 4 x4 24 (r .function) → x5 ≡ splice s 0 low
   low-made s e1 e2 e3 e4 e5 =
-      let g1 = e1 ∙ put-splice 4 s 0 (r .schema) in
-      let g2 = e2 ∙ put-grow s a1 4 4 (r .tier) g1 (simp (length-append, length-bytes)) in
-      let g3 = e3 ∙ put-grow s a2 8 8 (r .interval) g2 (simp (length-append, length-bytes)) in
-      let g4 = e4 ∙ put-grow s a3 8 16 (r .retention) g3 (simp (length-append, length-bytes)) in
-      e5 ∙ put-grow s a4 4 24 (r .function) g4 (simp (length-append, length-bytes))
+      let to-schema = front-field 4 (r .schema) (front-none s) e1 in
+      let to-tier = front-field 4 (r .tier) to-schema e2 in
+      let to-interval = front-field 8 (r .interval) to-tier e3 in
+      let to-retention = front-field 8 (r .retention) to-interval e4 in
+      front-field 4 (r .function) to-retention e5 .is
 
-  pub row-made : (s : List ℕ) {x5 x6 x7 x8 x9 x10 : List ℕ} → length s ≡ 64 → x5 ≡ splice s 0 a5 → x6 ≡ put 4 x5 28 (r .series) → x7 ≡ put 8 x6 32 (r .offset) → x8 ≡ put 8 x7 40 (r .len)
+  pub row-made : (s : List ℕ) {x5 x6 x7 x8 x9 x10 : List ℕ} → length s ≡ 64 → x5 ≡ splice s 0 low → x6 ≡ put 4 x5 28 (r .series) → x7 ≡ put 8 x6 32 (r .offset) → x8 ≡ put 8 x7 40 (r .len)
       → x9 ≡ put 8 x8 48 (r .mark) → x10 ≡ put 8 x9 56 (r .hash) → x10 ≡ rowBytes r
+  unfolding rowBytes
   row-made s h e5 e6 e7 e8 e9 e10 =
-      let g6 = e6 ∙ put-grow s a5 4 28 (r .series) e5 (simp (length-append, length-bytes)) in
-      let g7 = e7 ∙ put-grow s a6 8 32 (r .offset) g6 (simp (length-append, length-bytes)) in
-      let g8 = e8 ∙ put-grow s a7 8 40 (r .len) g7 (simp (length-append, length-bytes)) in
-      let g9 = e9 ∙ put-grow s a8 8 48 (r .mark) g8 (simp (length-append, length-bytes)) in
-      e10 ∙ put-grow s a9 8 56 (r .hash) g9 (simp (length-append, length-bytes)) ∙ whole
-    where
-      whole : splice s 0 (a9 ++ bytes 8 (r .hash)) ≡ rowBytes r
-      whole = unfold rowBytes in (splice-whole s (a9 ++ bytes 8 (r .hash)) (length-row ∙ sym h))
+      let to-function : Front s _ low 28 = record { is = e5; long = simp (length-append, length-bytes); } in
+      let to-series = front-field 4 (r .series) to-function e6 in
+      let to-offset = front-field 8 (r .offset) to-series e7 in
+      let to-len = front-field 8 (r .len) to-offset e8 in
+      let to-mark = front-field 8 (r .mark) to-len e9 in
+      front-field 8 (r .hash) to-mark e10 .is ∙ splice-whole s (rowBytes r) (length-row ∙ sym h)
 
 -- ---- a part lent as `&mut im[a..a + k]`
 
@@ -175,25 +151,14 @@ module _ (p s : List ℕ) (fits : 32 ≤ length p) where
   abbrev R : List Row
   R = rowsTo p N 0
 
-  abbrev L : ℕ
-  L = imageLength p
+  abbrev placed : List ℕ
+  placed = allRows (placedRows (32 + 64 * N) R)
 
-  abbrev b1 : List ℕ
-  b1 = take 16 p
+  -- the parts one behind the other
+  abbrev parts : List ℕ
+  parts = take 16 p ++ bytes 8 (imageLength p) ++ replicate 8 0 ++ placed ++ freshSlabs R
 
-  abbrev b2 : List ℕ
-  b2 = b1 ++ bytes 8 L
-
-  abbrev b3 : List ℕ
-  b3 = b2 ++ replicate 8 0
-
-  abbrev b4 : List ℕ
-  b4 = b3 ++ allRows (placedRows (32 + 64 * N) R)
-
-  abbrev b5 : List ℕ
-  b5 = b4 ++ freshSlabs R
-
-  ends : slabsEnd (32 + 64 * N) R ≡ L
+  ends : slabsEnd (32 + 64 * N) R ≡ imageLength p
   unfolding imageLength rowPlace rowCount
   ends = rw (rows-all p)
 
@@ -201,22 +166,17 @@ module _ (p s : List ℕ) (fits : 32 ≤ length p) where
   unfolding rowsTo
   count = rw sub-zero (length-rowsFrom p 0 N)
 
-  m1 : length b1 ≡ 16
-  m1 = length-take-le 16 p (omega arith)
+  -- the lengths of the first and of the two last parts
+  head-long : length (take 16 p) ≡ 16
+  head-long = length-take-le 16 p (omega arith)
 
-  m2 : length b2 ≡ 24
-  m2 = longer b1 (bytes 8 L) 16 8 m1 (length-bytes 8 L)
+  placed-long : length placed ≡ 64 * N
+  placed-long = rows-long (32 + 64 * N) R ∙ rw count
 
-  m3 : length b3 ≡ 32
-  m3 = longer b2 (replicate 8 0) 24 8 m2 refl
+  parts-long : length parts ≡ imageLength p
+  parts-long = simp (length-append, length-bytes, length-replicate, head-long, placed-long) (omega (arith, slabs-long (32 + 64 * N) R, ends))
 
-  m4 : length b4 ≡ 32 + 64 * N
-  m4 = longer b3 (allRows (placedRows (32 + 64 * N) R)) 32 (64 * N) m3 (rows-long (32 + 64 * N) R ∙ rw count)
-
-  m5 : length b5 ≡ L
-  m5 = omega (arith, length-append b4 (freshSlabs R), m4, slabs-long (32 + 64 * N) R, ends)
-
-  fresh-is : b5 ≡ freshImage p
+  fresh-is : parts ≡ freshImage p
   unfolding freshImage rowPlace rowCount
   fresh-is = rw (rows-all p)
 
@@ -225,16 +185,17 @@ module _ (p s : List ℕ) (fits : 32 ≤ length p) where
   zeros t = put-splice 8 t 24 0
 
   pub length-image : length (freshImage p) ≡ imageLength p
-  length-image = ap length (sym fresh-is) ∙ m5
+  length-image = ap length (sym fresh-is) ∙ parts-long
 
   pub image-made : {n l : ℕ} {x1 x2 x3 x4 x5 : List ℕ} → imageLength p ≤ length s → n ≡ get 4 p 12 → l ≡ imageLength p → x1 ≡ splice s 0 (take 16 p) → x2 ≡ put 8 x1 16 l
       → x3 ≡ put 8 x2 24 0 → x4 ≡ splice x3 32 (allRows (placedRows (32 + 64 * n) (rowsTo p n 0))) → x5 ≡ splice x4 (32 + 64 * n) (freshSlabs (rowsTo p n 0))
       → x5 ≡ freshImage p ++ drop (imageLength p) s
-  image-made {x2 = x2} {x3} {x4} {x5} h en el e1 e2 e3 e4 e5 =
-      let g2 : x2 ≡ splice s 0 b2 = e2 ∙ rw el (put-grow s b1 8 16 L e1 m1) in
-      let g3 : x3 ≡ splice s 0 b3 = e3 ∙ zeros _ ∙ grow s b2 (replicate 8 0) 24 g2 m2 in
-      let g4 : x4 ≡ splice s 0 b4 = e4 ∙ rw en (grow s b3 (allRows (placedRows (32 + 64 * N) R)) 32 g3 m3) in
-      let g5 : x5 ≡ splice s 0 b5 = e5 ∙ rw en (grow s b4 (freshSlabs R) (32 + 64 * N) g4 m4) in
-      let f : length b5 ≤ length s = omega (arith, m5) in
-      let e : splice s 0 b5 ≡ freshImage p ++ drop (imageLength p) s = splice-front s b5 f ∙ rw (m5, fresh-is) in
-      g5 ∙ e
+  image-made {x2 = x2} h en el e1 e2 e3 e4 e5 =
+      let head : Front s _ (take 16 p) 16 = record { is = e1; long = head-long; } in
+      let to-length = front-field 8 (imageLength p) head (rw el at e2) in
+      let header = front-part (replicate 8 0) to-length (length-replicate {A = ℕ} 8 0) (e3 ∙ zeros x2) in
+      let to-rows = front-part placed header placed-long (rw en at e4) in
+      let all = front-part (freshSlabs R) to-rows refl (rw en at e5) in
+      let f : length parts ≤ length s = omega (arith, parts-long) in
+      let e : splice s 0 parts ≡ freshImage p ++ drop (imageLength p) s = splice-front s parts f ∙ rw (parts-long, fresh-is) in
+      all .is ∙ e

@@ -4,6 +4,28 @@ use borrow.Author.Needs.{needs}
 use Rattle.slab.proofs.fresh_head.Statement.{statement}
 use Rattle.slab.proofs.fresh_head.Tie as tie
 
+-- where each field is put, from the zeros behind them back to the first
+abbrev at-interval : tie.After-fill → tie.After-put-u642
+at-interval c = c .before .before .before .before
+
+abbrev at-series : tie.After-put-u642 → tie.After-put-u324
+at-series c = c .before .before .before .before
+
+abbrev at-slots : tie.After-put-u324 → tie.After-put-u323
+at-slots c = c .before .before .before .before
+
+abbrev at-hash : tie.After-put-u323 → tie.After-put-u64
+at-hash c = c .before .before .before .before
+
+abbrev at-version : tie.After-put-u64 → tie.After-put-u322
+at-version c = c .before .before .before .before
+
+abbrev at-magic : tie.After-put-u322 → tie.After-put-u32
+at-magic c = c .before .before .before .before
+
+abbrev start : tie.After-put-u32 → tie.Start
+start c = c .before .before .before
+
 put-u32-requires : tie.Need-put-u32-requires
 put-u32-requires c κs = search needs
 
@@ -29,7 +51,17 @@ same-length : tie.Need-same-length
 same-length c = search needs
 
 returns : tie.Need-returns
-returns c = let a = c .before .before .before .before .before .before .before .before .before .before .before .before .before .before .before .before .before .before .before .before .before .before .before .before .before .before .before .before .before .args in head-made (a .hash) (a .n) (a .m) (a .interval) (a .slab .now) (c .before .before .before .before .before .before .before .before .before .before .before .before .before .before .before .before .before .before .before .before .before .before .before .before .before .before .put-u32 .ensures) (c .before .before .before .before .before .before .before .before .before .before .before .before .before .before .before .before .before .before .before .before .before .before .put-u322 .ensures) (c .before .before .before .before .before .before .before .before .before .before .before .before .before .before .before .before .before .before .put-u64 .ensures) (c .before .before .before .before .before .before .before .before .before .before .before .before .before .before .put-u323 .ensures) (c .before .before .before .before .before .before .before .before .before .before .put-u324 .ensures) (c .before .before .before .before .before .before .put-u642 .ensures) (c .before .before .fill .ensures)
+returns c =
+    let rest = c .before .before in
+    let interval = at-interval rest in
+    let series = at-series interval in
+    let slots = at-slots series in
+    let hash = at-hash slots in
+    let version = at-version hash in
+    let magic = at-magic version in
+    let a = start magic .args in
+    head-made (a .hash) (a .n) (a .m) (a .interval) (a .slab .now) (magic .put-u32 .ensures) (version .put-u322 .ensures) (hash .put-u64 .ensures)
+    (slots .put-u323 .ensures) (series .put-u324 .ensures) (interval .put-u642 .ensures) (rest .fill .ensures)
 
 pub fresh-head-spec : {M : Type 1} → statement M
 fresh-head-spec =

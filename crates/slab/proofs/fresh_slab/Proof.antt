@@ -8,38 +8,60 @@ use borrow.Author.Needs.{needs}
 use Rattle.slab.proofs.fresh_slab.Statement.{statement}
 use Rattle.slab.proofs.fresh_slab.Tie as tie
 
+-- where each part is written, from the last back to the first
+abbrev at-stamps : tie.After-fill-cells → tie.After-fill2
+at-stamps c = c .before .before .before .before
+
+abbrev at-directory : tie.After-fill2 → tie.After-fill
+at-directory c = c .before .before .before .before
+
+abbrev at-head : tie.After-fill → tie.After-fresh-head
+at-head c = c .before .before .before .before
+
+abbrev start : tie.After-fresh-head → tie.Start
+start c = c .before .before .before
+
 mul-stamps : tie.Need-mul-stamps
-mul-stamps c = omega (arith, long (c .before .args .n) (c .before .args .m))
+mul-stamps c = let a = c .before .args in omega (arith, long (a .n) (a .m))
 
 add-stamps : tie.Need-add-stamps
-add-stamps c = omega (arith, long (c .before .args .n) (c .before .args .m))
+add-stamps c = let a = c .before .args in omega (arith, long (a .n) (a .m))
 
 mul-cells : tie.Need-mul-cells
-mul-cells c = omega (arith, long (c .before .args .n) (c .before .args .m))
+mul-cells c = let a = c .before .args in omega (arith, long (a .n) (a .m))
 
 add-cells : tie.Need-add-cells
-add-cells c = omega (arith, long (c .before .args .n) (c .before .args .m))
+add-cells c = let a = c .before .args in omega (arith, long (a .n) (a .m))
 
 mul-count : tie.Need-mul-count
-mul-count c = omega (arith, long (c .before .args .n) (c .before .args .m))
+mul-count c = let a = c .before .args in omega (arith, long (a .n) (a .m))
 
 fresh-head-requires : tie.Need-fresh-head-requires
-fresh-head-requires c κs = omega (arith, long (c .before .before .args .n) (c .before .before .args .m))
+fresh-head-requires c κs = let a = c .before .before .args in omega (arith, long (a .n) (a .m))
 
 fill-requires : tie.Need-fill-requires
-fill-requires c κs = omega (arith, long (c .before .before .before .before .before .before .args .n) (c .before .before .before .before .before .before .args .m))
+fill-requires c κs = let a = start (c .before .before .before) .args in omega (arith, long (a .n) (a .m))
 
 fill-requires-2 : tie.Need-fill-requires-2
-fill-requires-2 c κs = omega (arith, long (c .before .before .before .before .before .before .before .before .before .before .args .n) (c .before .before .before .before .before .before .before .before .before .before .args .m))
+fill-requires-2 c κs = let a = start (at-head (c .before .before .before)) .args in omega (arith, long (a .n) (a .m))
 
 fill-cells-requires : tie.Need-fill-cells-requires
-fill-cells-requires c κs = omega (arith, long (c .before .before .before .before .before .before .before .before .before .before .before .before .before .before .args .n) (c .before .before .before .before .before .before .before .before .before .before .before .before .before .before .args .m))
+fill-cells-requires c κs = let a = start (at-head (at-directory (c .before .before .before))) .args in omega (arith, long (a .n) (a .m))
 
 same-length : tie.Need-same-length
 same-length c = search needs
 
 returns : tie.Need-returns
-returns c = let a = c .before .before .before .before .before .before .before .before .before .before .before .before .before .before .before .before .before .args in let e : 64 + 4 * a .m - 64 ≡ 4 * a .m = omega arith in let f : 64 + 4 * a .m + 8 * a .n - (64 + 4 * a .m) ≡ 8 * a .n = omega arith in slab-made (a .hash) (a .n) (a .m) (a .interval) (a .slab .now) (c .before .before .before .before .before .before .before .before .before .before .before .before .before .before .before .before .before .pre) (c .before .before .before .before .before .before .before .before .before .before .before .before .before .before .fresh-head .ensures) (c .before .before .before .before .before .before .before .before .before .before .fill .ensures ∙ rw e) (c .before .before .before .before .before .before .fill2 .ensures ∙ rw f) (c .before .before .fill-cells .ensures)
+returns c =
+    let cells = c .before .before in
+    let stamps = at-stamps cells in
+    let directory = at-directory stamps in
+    let head = at-head directory in
+    let a = start head .args in
+    let e : 64 + 4 * a .m - 64 ≡ 4 * a .m = omega arith in
+    let f : 64 + 4 * a .m + 8 * a .n - (64 + 4 * a .m) ≡ 8 * a .n = omega arith in
+    slab-made (a .hash) (a .n) (a .m) (a .interval) (a .slab .now) (start head .pre) (head .fresh-head .ensures)
+    (directory .fill .ensures ∙ rw e) (stamps .fill2 .ensures ∙ rw f) (cells .fill-cells .ensures)
 
 pub fresh-slab-spec : {M : Type 1} → statement M
 fresh-slab-spec =
