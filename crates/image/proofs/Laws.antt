@@ -1,16 +1,16 @@
 -- The slabs one by one: where each stands, and one turn of their check. Assumes nothing.
-use Prim.Native.Nat.{ℕ, suc, _+_, _*_, _-_, _≤_, _<_}
+use Prim.Native.Nat.{ℕ, suc, _+_, _-_, _≤_, _<_}
 use native.Mathlib.Nat.{sub-zero, zero-add}
 use native.Mathlib.Omega.{arith}
-use mathlib.Core.Path.{_≡_, refl, sym, ap, _∙_}
-use mathlib.Core.Bool.{Bool, true, false, _&&_}
-use mathlib.Core.List.{List, [], _∷_}
+use mathlib.Core.Path.{_≡_}
+use mathlib.Core.Bool.{Bool, true, _&&_}
+use mathlib.Core.List.{List}
 use lib.ListN.{length, take, drop}
 use Rattle.model.specs.declared.Row.{Row}
 use Rattle.model.specs.Bytes.{part}
 use Rattle.laws.specs.Bytes.{length-part}
 use Rattle.model.specs.Image.{rowsFrom, rowAt, rowLength, rowSlots, slabsEnd, placed, slabOf, sound, soundAll}
-use Rattle.frame.specs.Rows.{Place, placed-at, slabsEnd-suc, slabsEnd-le}
+use Rattle.frame.specs.Rows.{placed-at, slabsEnd-suc, slabsEnd-le}
 use Rattle.rows.specs.Tests.{and-assoc, and-true}
 use Rattle.rows.specs.Rows.{rowsTo, rows-step, rows-end}
 use Rattle.layout.specs.Ends.{long}

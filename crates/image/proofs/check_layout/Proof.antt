@@ -1,6 +1,9 @@
 -- `image::check_layout` meets its contract: the schemas' refusal, then 8. Assumes nothing.
-use mathlib.Core.Path.{_≡_}
+use mathlib.Core.Path.{_≡_, sym, _∙_}
+use mathlib.Core.List.{List}
+use Prim.Native.Nat.{ℕ}
 use native.Mathlib.Omega.{arith}
+use Rattle.model.specs.Words.{outcomeNo}
 use Rattle.model.specs.Image.{rowCount, schemas, schemaChecks}
 use Rattle.rows.specs.Rows.{sizes, rowsTo}
 use Rattle.rows.specs.First.{accepted, not-accepted}
@@ -9,14 +12,37 @@ use borrow.Author.Needs.{needs}
 use Rattle.image.proofs.check_layout.Statement.{statement}
 use Rattle.image.proofs.check_layout.Tie as tie
 
+-- the schemas were checked; back to the start
+abbrev start : tie.After-check-schemas → tie.Start
+start c = c .before .before .before .before
+
+abbrev slice : tie.After-check-schemas → List ℕ
+slice c = start c .args .s .now
+
+abbrev checked : tie.After-length-of → tie.After-check-schemas
+checked c = c .before .before .before
+
+checks-are : (c : tie.After-check-schemas) → outcomeNo (c .check-schemas .result) ≡ schemaChecks 0 (schemas (slice c)) (rowsTo (slice c) (rowCount (slice c)) 0)
+unfolding rowCount schemas
+checks-are c =
+    let k = c .before .before .get-u32 .ensures in
+    let n = c .before .get-u322 .ensures in
+    let e = c .check-schemas .ensures in
+    cc
+
+schemas-good : (c : tie.After-length-of) → let s = slice (checked c) in schemaChecks 0 (schemas s) (rowsTo s (rowCount s) 0) ≡ 0
+schemas-good c = sym (checks-are (checked c)) ∙ accepted (c .before .enum-told .given .1)
+
+-- ---- the needs
+
 get-u32-requires : tie.Need-get-u32-requires
-get-u32-requires c κs = let z = sizes (c .before .args .s .now) (c .before .pre) in omega arith
+get-u32-requires c κs = let b = c .before in let z = sizes (b .args .s .now) (b .pre) in omega arith
 
 get-u32-requires-2 : tie.Need-get-u32-requires-2
-get-u32-requires-2 c κs = let z = sizes (c .before .before .args .s .now) (c .before .before .pre) in omega arith
+get-u32-requires-2 c κs = let b = c .before .before in let z = sizes (b .args .s .now) (b .pre) in omega arith
 
 check-schemas-requires : tie.Need-check-schemas-requires
-check-schemas-requires c κs = let z = sizes (c .before .before .before .args .s .now) (c .before .before .before .pre) in omega arith
+check-schemas-requires c κs = let b = c .before .before .before in let z = sizes (b .args .s .now) (b .pre) in omega arith
 
 enum-told : tie.Need-enum-told
 enum-told c = search needs
@@ -25,19 +51,16 @@ enum-told-2 : tie.Need-enum-told-2
 enum-told-2 c = search needs
 
 returns : tie.Need-returns
-unfolding rowCount schemas
-returns c = let s = c .before .before .before .before .before .before .args .s .now in ways.layout-schemas s (cc) (not-accepted (c .enum-told2 .given .1))
+returns c = let d = c .before .before in ways.layout-schemas (slice d) (checks-are d) (not-accepted (c .enum-told2 .given .1))
 
 length-of-requires : tie.Need-length-of-requires
 length-of-requires c κs = search needs
 
 returns-2 : tie.Need-returns-2
-unfolding rowCount schemas
-returns-2 c = let s = c .before .before .before .before .before .before .before .before .args .s .now in let e : schemaChecks 0 (schemas s) (rowsTo s (rowCount s) 0) ≡ 0 = cc (accepted (c .before .before .enum-told .given .1)) in ways.layout-8 s e (omega arith)
+returns-2 c = let d = c .before in ways.layout-8 (slice (checked d)) (schemas-good d) (omega arith)
 
 returns-3 : tie.Need-returns-3
-unfolding rowCount schemas
-returns-3 c = let s = c .before .before .before .before .before .before .before .before .args .s .now in let e : schemaChecks 0 (schemas s) (rowsTo s (rowCount s) 0) ≡ 0 = cc (accepted (c .before .before .enum-told .given .1)) in ways.layout-0 s e (omega arith)
+returns-3 c = let d = c .before in ways.layout-0 (slice (checked d)) (schemas-good d) (omega arith)
 
 pub check-layout-spec : {M : Type 1} → statement M
 check-layout-spec =
