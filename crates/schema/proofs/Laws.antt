@@ -1,13 +1,13 @@
 -- A schema's tiers one by one, and its checks in their order. Assumes nothing.
-use Prim.Native.Nat.{ℕ, zero, suc, _+_, _-_, _^_, _≤_, _<_}
+use Prim.Native.Nat.{ℕ, suc, _+_, _-_, _^_, _≤_, _<_}
 use native.Mathlib.Numerals.{add-one}
 use native.Mathlib.Nat.{sub-zero}
 use native.Mathlib.Omega.{arith}
-use mathlib.Core.Path.{_≡_, refl, sym, ap, _∙_}
+use mathlib.Core.Path.{_≡_, sym, ap, _∙_}
 use mathlib.Core.Bool.{Bool, true, false, _&&_}
 use mathlib.Core.List.{List, [], _∷_}
 use lib.Dec.{eqb, leb, ltb}
-use borrow.Author.Tests.{eq-eqb, ne-eqb, lt-ltb, le-ltb, le-leb, lt-leb}
+use borrow.Author.Tests.{eq-eqb, ne-eqb, lt-ltb, le-leb, lt-leb}
 use Rattle.model.specs.declared.Row.{Row}
 use Rattle.model.specs.Image.{first, unless, rowAt, rowSlots, tiersOf, keepRow, tierCheck, tierChecks, rising, schemaCheck, schemaChecks}
 use Rattle.rows.specs.Tests.{and-assoc, and-true}
@@ -15,18 +15,18 @@ use Rattle.rows.specs.First.{first-stop, first-on, first-one}
 use Rattle.rows.specs.Rows.{rowsTo, rows-step, rows-end}
 use Rattle.schema.specs.declared.First.{First}
 use Rattle.schema.specs.declared.First.the-variants.{At, Missing}
-use Rattle.schema.specs.Tiers.{tiersAt, reach}
+use Rattle.schema.specs.Tiers.{tiersAt}
 
 -- ---- the rows of schema j
 
-module _ (s : List ℕ) (n i j : ℕ) (h : i < n) where
-  pub tiers-take : rowAt s i .schema ≡ j → tiersOf j (rowsTo s n i) ≡ rowAt s i ∷ tiersOf j (rowsTo s n (i + 1))
+module _ (s : List ℕ) (n i j : ℕ) (h : i < n) {r : Row} (is : r ≡ rowAt s i) where
+  pub tiers-take : r .schema ≡ j → tiersOf j (rowsTo s n i) ≡ rowAt s i ∷ tiersOf j (rowsTo s n (i + 1))
   unfolding tiersOf keepRow
-  tiers-take e = rw (rows-step s n i h, eq-eqb _ _ e)
+  tiers-take e = rw (rows-step s n i h, eq-eqb _ _ (ap (λ r. r .schema) (sym is) ∙ e))
 
-  pub tiers-skip : (rowAt s i .schema ≡ j → ⊥) → tiersOf j (rowsTo s n (i + 1)) ≡ tiersOf j (rowsTo s n i)
+  pub tiers-skip : (r .schema ≡ j → ⊥) → tiersOf j (rowsTo s n (i + 1)) ≡ tiersOf j (rowsTo s n i)
   unfolding tiersOf keepRow
-  tiers-skip e = sym (rw (rows-step s n i h, ne-eqb _ _ e))
+  tiers-skip e = sym (rw (rows-step s n i h, ne-eqb _ _ (λ z. e (ap (λ r. r .schema) is ∙ z))))
 
 pub tiers-end : (s : List ℕ) (n i j : ℕ) → n ≤ i → tiersOf j (rowsTo s n i) ≡ []
 unfolding tiersOf
@@ -51,21 +51,24 @@ module _ (r : Row) where
   unfolding tierCheck first unless
   tier-0 e h = rw (e, le-leb _ _ h)
 
-module _ (s : List ℕ) (n i j : ℕ) (h : i < n) (e : rowAt s i .schema ≡ j) where
-  pub tiers-stop : {x : ℕ} → x ≡ tierCheck (rowAt s i) → (x ≡ 0 → ⊥) → x ≡ tierChecks (tiersOf j (rowsTo s n i))
-  unfolding tierChecks
-  tiers-stop f z = rw (tiers-take s n i j h e) (f ∙ sym (first-stop (tierCheck (rowAt s i)) _ (λ y. z (f ∙ y))))
+module _ (s : List ℕ) (n i j : ℕ) (h : i < n) {r : Row} (is : r ≡ rowAt s i) (e : r .schema ≡ j) where
+  taken : tiersOf j (rowsTo s n i) ≡ r ∷ tiersOf j (rowsTo s n (i + 1))
+  taken = tiers-take s n i j h is e ∙ ap (λ q. q ∷ tiersOf j (rowsTo s n (i + 1))) (sym is)
 
-  pub tiers-on : tierCheck (rowAt s i) ≡ 0 → tierChecks (tiersOf j (rowsTo s n (i + 1))) ≡ tierChecks (tiersOf j (rowsTo s n i))
+  pub tiers-stop : {x : ℕ} → x ≡ tierCheck r → (x ≡ 0 → ⊥) → x ≡ tierChecks (tiersOf j (rowsTo s n i))
   unfolding tierChecks
-  tiers-on f = rw (tiers-take s n i j h e) (sym (first-on _ f ∙ first-one _))
+  tiers-stop f z = rw taken (f ∙ sym (first-stop (tierCheck r) _ (λ y. z (f ∙ y))))
+
+  pub tiers-on : tierCheck r ≡ 0 → tierChecks (tiersOf j (rowsTo s n (i + 1))) ≡ tierChecks (tiersOf j (rowsTo s n i))
+  unfolding tierChecks
+  tiers-on f = rw taken (sym (first-on _ f ∙ first-one _))
 
   -- ---- 6
 
-  pub rising-on : (good : Bool) (p : Row) {x : ℕ} → x ≡ rowAt s i .interval
-      → (good && ltb (p .interval) x) && rising (rowAt s i) (tiersOf j (rowsTo s n (i + 1))) ≡ good && rising p (tiersOf j (rowsTo s n i))
+  pub rising-on : (good : Bool) (p : Row)
+      → (good && ltb (p .interval) (r .interval)) && rising r (tiersOf j (rowsTo s n (i + 1))) ≡ good && rising p (tiersOf j (rowsTo s n i))
   unfolding rising
-  rising-on good p f = rw (tiers-take s n i j h e, f) (and-assoc good _ _)
+  rising-on good p = rw taken (and-assoc good _ _)
 
 pub checks-end : (s : List ℕ) (n i j : ℕ) → n ≤ i → tierChecks (tiersOf j (rowsTo s n i)) ≡ 0
 unfolding tierChecks
@@ -82,15 +85,12 @@ module _ (s : List ℕ) (n j : ℕ) {f : First} (e : tiersOf j (rowsTo s n 0) �
   unfolding schemaCheck
   schema-2 m = let z : tiersOf j (rowsTo s n 0) ≡ [] = e ∙ ap (tiersAt s n j) m in rw z
 
-  module _ {i : ℕ} (m : f ≡ At i) where
-    abbrev r : Row
-    r = rowAt s i
-
+  module _ {i : ℕ} (m : f ≡ At i) {r : Row} (is : r ≡ rowAt s i) where
     abbrev rest : List Row
     rest = tiersOf j (rowsTo s n (i + 1))
 
     tiers-are : tiersOf j (rowsTo s n 0) ≡ r ∷ rest
-    tiers-are = e ∙ ap (tiersAt s n j) m
+    tiers-are = e ∙ ap (tiersAt s n j) m ∙ ap (λ q. q ∷ rest) (sym is)
 
     pub schema-3 : r .series ≡ 0 → 3 ≡ schemaCheck (tiersOf j (rowsTo s n 0))
     unfolding schemaCheck first unless
@@ -104,21 +104,23 @@ module _ (s : List ℕ) (n j : ℕ) {f : First} (e : tiersOf j (rowsTo s n 0) �
       pub schema-tiers : {x : ℕ} → x ≡ tierChecks (tiersOf j (rowsTo s n 0)) → (x ≡ 0 → ⊥) → x ≡ schemaCheck (tiersOf j (rowsTo s n 0))
       schema-tiers q z = let p = q ∙ ap tierChecks tiers-are in p ∙ sym (past-3 ∙ first-stop (tierChecks (r ∷ rest)) _ (λ y. z (p ∙ y)))
 
-      module _ (b : tierChecks (tiersOf j (rowsTo s n 0)) ≡ 0) where
-        past-tiers : schemaCheck (tiersOf j (rowsTo s n 0)) ≡ first (unless (rising r rest) 6 ∷ unless (eqb (r .function) 0) 7 ∷ [])
-        past-tiers = past-3 ∙ first-on _ (ap tierChecks (sym tiers-are) ∙ b)
+      -- what is left past the tiers' own checks: 6, then 7
+      pub past-tiers : tierChecks (tiersOf j (rowsTo s n 0)) ≡ 0 → {rises : Bool} → rises ≡ rising r rest
+          → schemaCheck (tiersOf j (rowsTo s n 0)) ≡ first (unless rises 6 ∷ unless (eqb (r .function) 0) 7 ∷ [])
+      past-tiers b c = past-3 ∙ first-on _ (ap tierChecks (sym tiers-are) ∙ b) ∙ ap (λ q. first (unless q 6 ∷ unless (eqb (r .function) 0) 7 ∷ [])) (sym c)
 
-        pub schema-6 : rising r rest ≡ false → 6 ≡ schemaCheck (tiersOf j (rowsTo s n 0))
-        unfolding first unless
-        schema-6 z = sym (past-tiers ∙ rw z)
+module _ {x : ℕ} (rises : Bool) (function : ℕ) (left : x ≡ first (unless rises 6 ∷ unless (eqb function 0) 7 ∷ [])) where
+  pub schema-6 : rises ≡ false → 6 ≡ x
+  unfolding first unless
+  schema-6 z = sym (left ∙ rw z)
 
-        pub schema-7 : rising r rest ≡ true → (r .function ≡ 0 → ⊥) → 7 ≡ schemaCheck (tiersOf j (rowsTo s n 0))
-        unfolding first unless
-        schema-7 z y = sym (past-tiers ∙ rw (z, ne-eqb _ _ y))
+  pub schema-7 : rises ≡ true → (function ≡ 0 → ⊥) → 7 ≡ x
+  unfolding first unless
+  schema-7 z y = sym (left ∙ rw (z, ne-eqb _ _ y))
 
-        pub schema-0 : rising r rest ≡ true → r .function ≡ 0 → 0 ≡ schemaCheck (tiersOf j (rowsTo s n 0))
-        unfolding first unless
-        schema-0 z y = sym (past-tiers ∙ rw (z, eq-eqb _ _ y))
+  pub schema-0 : rises ≡ true → function ≡ 0 → 0 ≡ x
+  unfolding first unless
+  schema-0 z y = sym (left ∙ rw (z, eq-eqb _ _ y))
 
 -- ---- the schemas
 

@@ -1,22 +1,40 @@
 -- `schema::check_tiers` meets its contract: the tiers left are refused as all are. Assumes nothing.
 use borrow.Author.Needs.{needs}
-use Prim.Native.Nat.{_-_, _≤_}
-use mathlib.Core.Path.{_≡_, refl, sym, ap, _∙_}
-use Rattle.model.specs.Image.{tiersOf, tierChecks, tierCheck}
+use Prim.Native.Nat.{ℕ, _-_, _≤_}
+use native.Mathlib.Omega.{arith}
+use mathlib.Core.Path.{_≡_, refl, sym, _∙_}
+use mathlib.Core.List.{List}
+use Rattle.model.specs.Image.{tiersOf, tierChecks}
 use Rattle.rows.specs.Rows.{rowsTo}
 use Rattle.rows.specs.Checks.{good, not-good}
 use Rattle.schema.proofs.Laws.{tiers-skip, tiers-stop, tiers-on, checks-end}
 use Rattle.schema.proofs.check_tiers.Statement.{statement}
 use Rattle.schema.proofs.check_tiers.Tie as tie
 
+-- the tiers before row i passed
+record Passed (s : List ℕ) (n j i : ℕ) : Type 0 where
+  in-rows : i ≤ n
+  passed : tierChecks (tiersOf j (rowsTo s n i)) ≡ tierChecks (tiersOf j (rowsTo s n 0))
+
 abbrev Inv-loop : tie.InvT-loop
-Inv-loop s n j i₀ i = (i ≤ n) × (tierChecks (tiersOf j (rowsTo s n i)) ≡ tierChecks (tiersOf j (rowsTo s n 0)))
+Inv-loop s n j i₀ i = Passed s n j i
 
 abbrev μ-loop : tie.MeasureT-loop
 μ-loop s n j i₀ i = n - i
 
+-- row i is read; back to the loop's head and to the start
+abbrev head : tie.After-row-at Inv-loop μ-loop → tie.At-loop Inv-loop μ-loop
+head c = c .before .before
+
+abbrev start : tie.At-loop Inv-loop μ-loop → tie.Start Inv-loop μ-loop
+start c = c .before .before
+
+-- it is schema j's, and was checked
+abbrev read : tie.After-checked-tier Inv-loop μ-loop → tie.After-row-at Inv-loop μ-loop
+read c = c .before .before .before
+
 loop-holds : tie.Need-loop-holds Inv-loop μ-loop
-loop-holds c = (search needs, refl)
+loop-holds c = record { in-rows = omega arith; passed = refl; }
 
 row-at-requires : tie.Need-row-at-requires Inv-loop μ-loop
 row-at-requires c κs = search needs
@@ -31,7 +49,15 @@ loop-less : tie.Need-loop-less Inv-loop μ-loop
 loop-less c = search needs
 
 loop-again : tie.Need-loop-again Inv-loop μ-loop
-loop-again c = let a = c .before .before .before .before .before .before .args in let l = c .before .before .before .before .loop in (search needs, rw (tiers-skip (a .s .now) (a .n) (l .i) (a .j) (c .before .before .before .loop-test .taken) (λ z. c .if1 .taken (ap (λ r. r .schema) (c .before .before .row-at .ensures) ∙ z))) (l .inv .1))
+loop-again c =
+    let d = c .before .before in
+    let l = head d .loop in
+    let a = start (head d) .args in
+    let t = d .before .loop-test .taken in
+    record {
+      in-rows = omega (arith, t);
+      passed = rw (tiers-skip (a .s .now) (a .n) (l .i) (a .j) t (d .row-at .ensures) (c .if1 .taken)) (l .inv .passed);
+    }
 
 checked-tier-requires : tie.Need-checked-tier-requires Inv-loop μ-loop
 checked-tier-requires c κs = search needs
@@ -46,7 +72,14 @@ outcome-of-requires : tie.Need-outcome-of-requires Inv-loop μ-loop
 outcome-of-requires c κs = search needs
 
 returns : tie.Need-returns Inv-loop μ-loop
-returns c = let a = c .before .before .before .before .before .before .before .before .before .before .args in let l = c .before .before .before .before .before .before .before .before .loop in let e = c .before .before .before .before .before .before .row-at .ensures in let o = c .outcome-of .ensures in tiers-stop (a .s .now) (a .n) (l .i) (a .j) (c .before .before .before .before .before .before .before .loop-test .taken) (ap (λ r. r .schema) (sym e) ∙ c .before .before .before .before .if1 .left) (o ∙ c .before .before .before .checked-tier .ensures .number ∙ ap tierCheck e) (λ z. not-good (c .before .enum-told2 .given .1) (sym o ∙ z)) ∙ l .inv .1
+returns c =
+    let k = c .before .before .before in
+    let d = read k in
+    let l = head d .loop in
+    let a = start (head d) .args in
+    let o = c .outcome-of .ensures in
+    tiers-stop (a .s .now) (a .n) (l .i) (a .j) (d .before .loop-test .taken) (d .row-at .ensures) (k .before .if1 .left)
+    (o ∙ k .checked-tier .ensures .number) (λ z. not-good (c .before .enum-told2 .given .1) (sym o ∙ z)) ∙ l .inv .passed
 
 add-i-2 : tie.Need-add-i-2 Inv-loop μ-loop
 add-i-2 c = search needs
@@ -55,10 +88,23 @@ loop-less-2 : tie.Need-loop-less-2 Inv-loop μ-loop
 loop-less-2 c = search needs
 
 loop-again-2 : tie.Need-loop-again-2 Inv-loop μ-loop
-loop-again-2 c = let a = c .before .before .before .before .before .before .before .before .before .args in let l = c .before .before .before .before .before .before .before .loop in let e = c .before .before .before .before .before .row-at .ensures in (search needs, tiers-on (a .s .now) (a .n) (l .i) (a .j) (c .before .before .before .before .before .before .loop-test .taken) (ap (λ r. r .schema) (sym e) ∙ c .before .before .before .if1 .left) (ap tierCheck (sym e) ∙ good (c .before .before .checked-tier .ensures) (c .enum-told .given .1) .0) ∙ l .inv .1)
+loop-again-2 c =
+    let k = c .before .before in
+    let d = read k in
+    let l = head d .loop in
+    let a = start (head d) .args in
+    let t = d .before .loop-test .taken in
+    let tier = good (k .checked-tier .ensures) (c .enum-told .given .1) .0 in
+    record {
+      in-rows = omega (arith, t);
+      passed = tiers-on (a .s .now) (a .n) (l .i) (a .j) t (d .row-at .ensures) (k .before .if1 .left) tier ∙ l .inv .passed;
+    }
 
 returns-2 : tie.Need-returns-2 Inv-loop μ-loop
-returns-2 c = let a = c .before .before .before .args in let l = c .before .loop in sym (checks-end (a .s .now) (a .n) (l .i) (a .j) (c .loop-test .left)) ∙ l .inv .1
+returns-2 c =
+    let l = c .before .loop in
+    let a = start (c .before) .args in
+    sym (checks-end (a .s .now) (a .n) (l .i) (a .j) (c .loop-test .left)) ∙ l .inv .passed
 
 pub check-tiers-spec : {M : Type 1} → statement M
 check-tiers-spec =
