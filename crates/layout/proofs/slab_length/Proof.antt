@@ -1,10 +1,14 @@
 -- `layout::slab_length` meets its contract: n (m + 1) words pass 2^37 exactly when n passes 2^37 / (m + 1), and then 2^40 bytes are passed. Assumes nothing.
-use Prim.Native.Nat.{_+_}
+use Prim.Native.Nat.{_+_, _*_, _≤_}
 use native.Mathlib.Omega.{arith}
 use Rattle.layout.proofs.Laws.{lists, over, within}
 use borrow.Author.Needs.{needs}
 use Rattle.layout.proofs.slab_length.Statement.{statement}
 use Rattle.layout.proofs.slab_length.Tie as tie
+
+-- few words: n lists of m + 1
+words-few : (c : tie.Else1) → let a = c .before .args in a .n * (a .m + 1) ≤ 137438953472
+words-few c = let a = c .before .args in within (a .n) (a .m + 1) (omega arith) (c .if1 .left)
 
 add-lists : tie.Need-add-lists
 add-lists c = search needs
@@ -22,13 +26,13 @@ add-l : tie.Need-add-l
 add-l c = search needs
 
 mul-l-2 : tie.Need-mul-l-2
-mul-l-2 c = let a = c .before .args in omega (arith, within (a .n) (a .m + 1) (omega arith) (c .if1 .left))
+mul-l-2 c = omega (arith, words-few c)
 
 mul-l-3 : tie.Need-mul-l-3
-mul-l-3 c = let a = c .before .args in omega (arith, within (a .n) (a .m + 1) (omega arith) (c .if1 .left))
+mul-l-3 c = omega (arith, words-few c)
 
 add-l-2 : tie.Need-add-l-2
-add-l-2 c = let a = c .before .args in omega (arith, within (a .n) (a .m + 1) (omega arith) (c .if1 .left))
+add-l-2 c = omega (arith, words-few c)
 
 returns-2 : tie.Need-returns-2
 returns-2 c = let a = c .before .before .args in omega (arith, lists (a .n) (a .m))
