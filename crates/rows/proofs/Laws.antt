@@ -1,16 +1,16 @@
 -- One turn of a loop over the rows: what is left of the claim is what was asked. Assumes nothing.
 use Prim.Native.Nat.{ℕ, _+_, _*_, _≤_, _<_}
 use native.Mathlib.Omega.{arith}
-use mathlib.Core.Path.{_≡_, refl, sym, _∙_}
+use mathlib.Core.Path.{_≡_, sym, ap, _∙_}
 use mathlib.Core.Bool.{Bool, true, false, _&&_}
-use mathlib.Core.List.{List, [], _∷_}
+use mathlib.Core.List.{List}
 use lib.ListN.{length}
 use lib.Dec.{eqb, leb}
 use borrow.Author.Tests.{eq-eqb, ne-eqb, le-leb, lt-leb}
 use Rattle.laws.specs.Tests.{le-is, and-right}
 use Rattle.model.specs.declared.Row.{Row}
 use Rattle.model.specs.Bytes.{get}
-use Rattle.model.specs.Image.{rowAt, every, follows, inOrder, orderly, rowShape, header, shape, blank, blankRow, rowPlace, rowCount, totalLength, rows}
+use Rattle.model.specs.Image.{rowAt, every, follows, inOrder, orderly, rowShape, header, shape, blank, blankRow, rowPlace, rowCount, totalLength}
 use Rattle.rows.specs.Tests.{and-assoc, and-true, and-false}
 use Rattle.rows.specs.Rows.{rowsTo, rows-step, rows-end, rows-all, goodRows, shape-rest}
 
@@ -40,26 +40,28 @@ module _ (s : List ℕ) (n k : ℕ) (h : 0 < n) where
   unfolding goodRows orderly every
   first-bad e = rw (rows-step s n 0 h, e) (and-false (eqb (rowAt s 0 .tier) 0 && inOrder (rowAt s 0) (rowsTo s n 1)))
 
-  pub first-late : (rowAt s 0 .tier ≡ 0 → ⊥) → goodRows k (rowsTo s n 0) ≡ false
-  unfolding goodRows orderly every
-  first-late e = rw (rows-step s n 0 h, ne-eqb _ _ e)
+  module _ {q : Row} (is : q ≡ rowAt s 0) where
+    pub first-late : (q .tier ≡ 0 → ⊥) → goodRows k (rowsTo s n 0) ≡ false
+    unfolding goodRows orderly every
+    first-late e = rw (rows-step s n 0 h, ne-eqb _ _ (λ z. e (ap (λ r. r .tier) is ∙ z)))
 
-  pub first-on : rowShape k (rowAt s 0) ≡ true → rowAt s 0 .tier ≡ 0 → goodAfter k (rowAt s 0) (rowsTo s n 1) ≡ goodRows k (rowsTo s n 0)
-  unfolding goodRows goodAfter orderly every
-  first-on e f = rw (rows-step s n 0 h, e, eq-eqb _ _ f)
+    pub first-on : rowShape k (rowAt s 0) ≡ true → q .tier ≡ 0 → goodAfter k q (rowsTo s n 1) ≡ goodRows k (rowsTo s n 0)
+    unfolding goodRows goodAfter orderly every
+    first-on e f = rw (is, rows-step s n 0 h, e, eq-eqb _ _ (ap (λ r. r .tier) (sym is) ∙ f))
 
 module _ (s : List ℕ) (n i k : ℕ) (p : Row) (h : i < n) where
   pub next-bad : rowShape k (rowAt s i) ≡ false → goodAfter k p (rowsTo s n i) ≡ false
   unfolding goodAfter inOrder every
   next-bad e = rw (rows-step s n i h, e) (and-false (follows p (rowAt s i) && inOrder (rowAt s i) (rowsTo s n (i + 1))))
 
-  pub next-late : follows p (rowAt s i) ≡ false → goodAfter k p (rowsTo s n i) ≡ false
-  unfolding goodAfter inOrder every
-  next-late e = rw (rows-step s n i h, e)
+  module _ {q : Row} (is : q ≡ rowAt s i) where
+    pub next-late : follows p q ≡ false → goodAfter k p (rowsTo s n i) ≡ false
+    unfolding goodAfter inOrder every
+    next-late e = rw (rows-step s n i h, ← is, e)
 
-  pub next-on : rowShape k (rowAt s i) ≡ true → follows p (rowAt s i) ≡ true → goodAfter k (rowAt s i) (rowsTo s n (i + 1)) ≡ goodAfter k p (rowsTo s n i)
-  unfolding goodAfter inOrder every
-  next-on e f = rw (rows-step s n i h, e, f)
+    pub next-on : rowShape k (rowAt s i) ≡ true → follows p q ≡ true → goodAfter k q (rowsTo s n (i + 1)) ≡ goodAfter k p (rowsTo s n i)
+    unfolding goodAfter inOrder every
+    next-on e f = rw (rows-step s n i h, e, ← is, f)
 
 pub good-end : (s : List ℕ) (n i k : ℕ) (p : Row) → n ≤ i → goodAfter k p (rowsTo s n i) ≡ true
 unfolding goodAfter inOrder every
