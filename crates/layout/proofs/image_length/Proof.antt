@@ -23,12 +23,9 @@ Inv-loop s n at₀ i₀ at i = Ended s n at i
 abbrev μ-loop : tie.MeasureT-loop
 μ-loop s n at₀ i₀ at i = n - i
 
--- row i's length is worked out; back to the loop's test, its head and the start
-abbrev in-turn : tie.After-row-length Inv-loop μ-loop → tie.In-loop Inv-loop μ-loop
-in-turn c = c .before .before
-
+-- row i's length is worked out; back to the loop's head and to the start
 abbrev head : tie.After-row-length Inv-loop μ-loop → tie.At-loop Inv-loop μ-loop
-head c = in-turn c .before
+head c = c .before .before .before
 
 abbrev start : tie.At-loop Inv-loop μ-loop → tie.Start Inv-loop μ-loop
 start c = c .before .before
@@ -63,7 +60,7 @@ returns : tie.Need-returns Inv-loop μ-loop
 returns c =
     let d = c .before in
     let l = head d .loop in
-    let over = ends-over (image d) (start (head d) .args .n) (l .i) (l .at) (d .row-length .result) (in-turn d .loop-test .taken) (len-is d) (omega arith) in
+    let over = ends-over (image d) (start (head d) .args .n) (l .i) (l .at) (d .row-length .result) (d .before .before .loop-test .taken) (len-is d) (omega arith) in
     omega (arith, over, l .inv .same-end)
 
 add-at-2 : tie.Need-add-at-2 Inv-loop μ-loop
@@ -79,7 +76,7 @@ loop-again : tie.Need-loop-again Inv-loop μ-loop
 loop-again c =
     let d = c .before in
     let l = head d .loop in
-    let t = in-turn d .loop-test .taken in
+    let t = d .before .before .loop-test .taken in
     let f : d .row-length .result ≡ rowLength (rowAt (image d) (l .i)) = omega (arith, len-is d, l .inv .low) in
     record {
       in-rows = omega (arith, t);

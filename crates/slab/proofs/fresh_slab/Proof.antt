@@ -1,6 +1,5 @@
 -- `slab::fresh_slab` meets its contract: header, directory, stamps and cells one behind the other are the slab. Assumes nothing.
-use Prim.Native.Nat.{_+_, _*_, _-_}
-use mathlib.Core.Path.{_≡_, _∙_}
+use Prim.Native.Nat.{_-_}
 use native.Mathlib.Omega.{arith}
 use Rattle.layout.specs.Ends.{long}
 use Rattle.slab.specs.Fresh.{slab-made}
@@ -58,10 +57,8 @@ returns c =
     let directory = at-directory stamps in
     let head = at-head directory in
     let a = start head .args in
-    let e : 64 + 4 * a .m - 64 ≡ 4 * a .m = omega arith in
-    let f : 64 + 4 * a .m + 8 * a .n - (64 + 4 * a .m) ≡ 8 * a .n = omega arith in
     slab-made (a .hash) (a .n) (a .m) (a .interval) (a .slab .now) (start head .pre) (head .fresh-head .ensures)
-    (directory .fill .ensures ∙ rw e) (stamps .fill2 .ensures ∙ rw f) (cells .fill-cells .ensures)
+    (directory .fill .ensures) (stamps .fill2 .ensures) (cells .fill-cells .ensures)
 
 pub fresh-slab-spec : {M : Type 1} → statement M
 fresh-slab-spec =
