@@ -1,7 +1,6 @@
 -- `record::is_bad_stamp` meets its contract, one case a return. Assumes nothing.
 use Rattle.model.specs.Record.{stampOk}
 use Rattle.record.proofs.Laws.{bad-stamp}
-use borrow.Author.Needs.{needs}
 use Rattle.record.proofs.is_bad_stamp.Statement.{statement}
 use Rattle.record.proofs.is_bad_stamp.Tie as tie
 

@@ -1,6 +1,6 @@
 -- `record::ready` meets its contract: opening's refusal, or what `ready_opened` answers. Assumes nothing.
-use mathlib.Core.Path.{_≡_, sym, ap, _∙_}
-use Rattle.model.specs.Words.{numberOf, outcomeNo}
+use mathlib.Core.Path.{sym, ap, _∙_}
+use Rattle.model.specs.Words.{outcomeNo}
 use Rattle.rows.specs.First.{refusal-no}
 use Rattle.record.specs.Ready.{unopened}
 use borrow.Author.Needs.{needs}
@@ -24,10 +24,8 @@ returns c = search needs
 
 returns-2 : tie.Need-returns-2
 returns-2 c =
-    let start = c .before .before .before .before .before in
-    let r = c .before .opened .given .0 .0 in
-    λ bs. unopened (start .args .image .now) bs (start .args .handle .schema) (start .args .handle .column) (start .args .value) (start .args .stamp) (numberOf r) (refusal-no r)
-    (sym (ap outcomeNo (c .before .opened .given .1)) ∙ c .before .before .before .check-image .ensures)
+    let told = c .before .opened .given in
+    λ bs. unopened _ bs _ _ _ _ _ (refusal-no (told .0 .0)) (sym (ap outcomeNo (told .1)) ∙ c .before .before .before .check-image .ensures)
 
 pub ready-spec : {M : Type 1} → statement M
 ready-spec =

@@ -1,11 +1,33 @@
 -- `record::ready_opened` meets its contract, one law a way. Assumes nothing.
 use mathlib.Core.Path.{_≡_, sym, _∙_}
 use borrow.Author.Tests.{not-true, not-false}
-use Rattle.model.specs.Record.{stampOk}
+use mathlib.Core.Bool.{false}
+use Rattle.model.specs.Ring.{isInfinite}
+use Rattle.lent.specs.Parts.{finestOf}
+use Rattle.lent.specs.declared.Finest.the-variants.{At}
 use Rattle.record.proofs.Laws.{refused-handle, refused-value, refused-stamp, ready-at}
 use borrow.Author.Needs.{needs}
 use Rattle.record.proofs.ready_opened.Statement.{statement}
 use Rattle.record.proofs.ready_opened.Tie as tie
+
+-- ---- what each test leaves, said once where it is known
+
+abbrev start : tie.After-finest-row → tie.Start
+start c = c .before .before .before .before
+
+abbrev asked : tie.After-found → tie.Start
+asked c = start (c .before .before)
+
+row-is : (c : tie.After-found) → finestOf (asked c .args .image .now) (asked c .args .handle .schema) (asked c .args .handle .column) ≡ At (c .found .given .0 .0)
+row-is c = sym (c .before .before .finest-row .ensures) ∙ c .found .given .1
+
+abbrev at-row : tie.After-is-bad-stamp → tie.After-found
+at-row c = c .before .before .before
+
+finite : (c : tie.Else1) → isInfinite (asked (at-row (c .before)) .args .value) ≡ false
+finite c = sym (c .before .before .is-infinite .ensures) ∙ c .if1 .left
+
+-- ---- the needs
 
 cast-finest-row : tie.Need-cast-finest-row
 cast-finest-row c = search needs
@@ -24,8 +46,8 @@ enum-told c = search needs
 
 returns : tie.Need-returns
 returns c =
-    let start = c .before .before .before .before .before .before in
-    refused-handle (start .args .image .now) (start .args .handle .schema) (start .args .handle .column) (start .args .value) (start .args .stamp) (start .pre) (sym (c .before .before .finest-row .ensures) ∙ c .enum-told .given .1)
+    let k = c .before .before in
+    refused-handle _ _ _ _ _ (start k .pre) (sym (k .finest-row .ensures) ∙ c .enum-told .given .1)
 
 is-infinite-requires : tie.Need-is-infinite-requires
 is-infinite-requires c κs = search needs
@@ -35,18 +57,18 @@ is-bad-stamp-requires c κs = search needs
 
 returns-2 : tie.Need-returns-2
 returns-2 c =
-    let start = c .before .before .before .before .before .before .before .before .before .before in
-    refused-value (start .args .image .now) (start .args .handle .schema) (start .args .handle .column) (start .args .value) (start .args .stamp) (start .pre) (sym (c .before .before .before .before .before .before .finest-row .ensures) ∙ c .before .before .before .before .found .given .1) (sym (c .before .before .is-infinite .ensures) ∙ c .if1 .taken)
+    let k = at-row (c .before) in
+    refused-value _ _ _ _ _ (asked k .pre) (row-is k) (sym (c .before .before .is-infinite .ensures) ∙ c .if1 .taken)
 
 returns-3 : tie.Need-returns-3
 returns-3 c =
-    let start = c .before .before .before .before .before .before .before .before .before .before .before in
-    refused-stamp (start .args .image .now) (start .args .handle .schema) (start .args .handle .column) (start .args .value) (start .args .stamp) (start .pre) (sym (c .before .before .before .before .before .before .before .finest-row .ensures) ∙ c .before .before .before .before .before .found .given .1) (sym (c .before .before .before .is-infinite .ensures) ∙ c .before .if1 .left) (not-true (stampOk (start .args .stamp)) (sym (c .before .before .is-bad-stamp .ensures) ∙ c .if2 .taken))
+    let k = at-row (c .before .before) in
+    refused-stamp _ _ _ _ _ (asked k .pre) (row-is k) (finite (c .before)) (not-true _ (sym (c .before .before .is-bad-stamp .ensures) ∙ c .if2 .taken))
 
 returns-4 : tie.Need-returns-4
 returns-4 c =
-    let start = c .before .before .before .before .before .before .before .before .before .before .before in
-    ready-at (start .args .image .now) (start .args .handle .schema) (start .args .handle .column) (start .args .value) (start .args .stamp) (start .pre) (sym (c .before .before .before .before .before .before .before .finest-row .ensures) ∙ c .before .before .before .before .before .found .given .1) (sym (c .before .before .before .is-infinite .ensures) ∙ c .before .if1 .left) (not-false (stampOk (start .args .stamp)) (sym (c .before .before .is-bad-stamp .ensures) ∙ c .if2 .left))
+    let k = at-row (c .before .before) in
+    ready-at _ _ _ _ _ (asked k .pre) (row-is k) (finite (c .before)) (not-false _ (sym (c .before .before .is-bad-stamp .ensures) ∙ c .if2 .left))
 
 pub ready-opened-spec : {M : Type 1} → statement M
 ready-opened-spec =

@@ -2,10 +2,26 @@
 use native.Mathlib.Omega.{arith}
 use Rattle.lent.specs.Parts.{lentOf, withFlag}
 use Rattle.lent.specs.Handle.{row-there}
-use Rattle.record.specs.Ready.{row-ready, refusal-ready, refused, recorded}
+use Rattle.record.specs.Ready.{ReadyAt, row-ready, refusal-ready, refused, recorded}
 use borrow.Author.Needs.{needs}
 use Rattle.record.proofs.record.Statement.{statement}
 use Rattle.record.proofs.record.Tie as tie
+
+-- ---- what `ready` told, said once where it is known
+
+abbrev start : tie.After-ready → tie.Start
+start c = c .before .before .before
+
+ready-at : (c : tie.After-found) → (let a = start (c .before .before) .args in ReadyAt (a .image .now) (a .handle .schema) (a .handle .column) (a .value) (a .stamp) (c .found .given .0 .0))
+ready-at c = row-ready (c .found .given .1) (c .before .before .ready .ensures)
+
+abbrev at-row : tie.After-struct-known → tie.After-found
+at-row c = c .before .before .before .before
+
+abbrev at-store : tie.After-slice-known2 → tie.After-struct-known
+at-store c = c .before .before .before
+
+-- ---- the needs
 
 ready-requires : tie.Need-ready-requires
 ready-requires c κs = search needs
@@ -14,19 +30,18 @@ enum-known-found : tie.Need-enum-known-found
 enum-known-found c = search needs
 
 flag-requires : tie.Need-flag-requires
-flag-requires c κs = omega (arith, row-ready (c .before .found .given .1) (c .before .before .before .ready .ensures) .few-rows)
+flag-requires c κs = omega (arith, ready-at (c .before) .few-rows)
 
 cast-store : tie.Need-cast-store
 cast-store c = search needs
 
 store-requires : tie.Need-store-requires
 store-requires c κs =
-    let start = c .before .before .before .before .before .before .before .before .before in
-    let r = row-ready (c .before .before .before .before .found .given .1) (c .before .before .before .before .before .before .ready .ensures) in
-    (r .opened, row-there (lentOf (start .args .image .now) (start .args .flags)) (start .args .handle .schema) (start .args .handle .column) (r .opened) (r .row-is))
+    let r = ready-at (at-row c) in
+    (r .opened, row-there (lentOf _ (start (at-row c .before .before) .args .flags)) _ _ (r .opened) (r .row-is))
 
 with-flag-requires : tie.Need-with-flag-requires
-with-flag-requires c κs = omega (arith, row-ready (c .before .before .before .before .before .before .before .found .given .1) (c .before .before .before .before .before .before .before .before .before .ready .ensures) .few-rows)
+with-flag-requires c κs = omega (arith, ready-at (at-row (at-store c)) .few-rows)
 
 enum-known-found-2 : tie.Need-enum-known-found-2
 enum-known-found-2 c = search needs
@@ -37,16 +52,16 @@ same-length c = search needs
 returns : tie.Need-returns
 unfolding withFlag
 returns c =
-    let start = c .before .before .before .before .before .before .before .before .before .before .before .before .before in
-    rw (c .with-flag .ensures) (recorded (start .args .image .now) (start .args .flags .wrapped) (start .args .handle .schema) (start .args .handle .column) (start .args .value) (start .args .stamp) (row-ready (c .before .before .before .before .before .before .before .before .found .given .1) (c .before .before .before .before .before .before .before .before .before .before .ready .ensures)) (c .before .before .before .store .ensures) (c .before .before .before .before .before .before .flag .ensures))
+    let k = at-store (c .before) in
+    rw (c .with-flag .ensures) (recorded _ _ _ _ _ _ (ready-at (at-row k)) (c .before .before .before .store .ensures) (k .before .before .flag .ensures))
 
 same-length-2 : tie.Need-same-length-2
 same-length-2 c = search needs
 
 returns-2 : tie.Need-returns-2
 returns-2 c =
-    let start = c .before .before .before .before .before .before in
-    refused (start .args .image .now) (start .args .flags .wrapped) (start .args .handle .schema) (start .args .handle .column) (start .args .value) (start .args .stamp) (c .before .found2 .given .0 .0) (refusal-ready (start .args .image .now) (start .args .handle .schema) (start .args .handle .column) (start .args .value) (start .args .stamp) (c .before .found2 .given .1) (c .before .before .before .ready .ensures))
+    let told = c .before .found2 .given in
+    refused _ _ _ _ _ _ (told .0 .0) (refusal-ready _ _ _ _ _ (told .1) (c .before .before .before .ready .ensures))
 
 pub record-spec : {M : Type 1} → statement M
 record-spec =

@@ -6,6 +6,9 @@ use borrow.Author.Needs.{needs}
 use Rattle.record.proofs.store.Statement.{statement}
 use Rattle.record.proofs.store.Tie as tie
 
+abbrev at-slab : tie.After-slice-known2 → tie.After-slab-at
+at-slab c = c .before .before .before .before
+
 slab-at-requires : tie.Need-slab-at-requires
 slab-at-requires c κs = search needs
 
@@ -25,9 +28,7 @@ same-length : tie.Need-same-length
 same-length c = search needs
 
 returns : tie.Need-returns
-returns c =
-    let start = c .before .before .before .before .before .before .before in
-    lent-write (c .before .before .before .before .slab-at .ensures) (one (start .args .column) (start .args .value)) (start .args .stamp) (search needs) (c .before .before .write .ensures .0)
+returns c = lent-write (at-slab c .slab-at .ensures) (one _ _) _ (search needs) (c .before .before .write .ensures .0)
 
 pub store-spec : {M : Type 1} → statement M
 store-spec =
