@@ -1,19 +1,19 @@
 -- What the proofs of record_batch rest on: the columns of a schema's entries are within its slab; one schema more; what a schema's write keeps; the outcome,
 -- one law a way. Assumes nothing.
-use Prim.Native.Nat.{ℕ, zero, suc, _+_, _-_, _*_, _/_, _≤_, _<_}
-use native.Mathlib.Nat.{add-zero, sub-zero}
+use Prim.Native.Nat.{ℕ, zero, suc, _+_, _-_, _/_, _≤_, _<_}
+use native.Mathlib.Nat.{sub-zero}
 use native.Mathlib.Numerals.{add-one}
 use native.Mathlib.Omega.{arith}
 use mathlib.Core.Path.{_≡_, refl, sym, ap, _∙_, subst}
 use mathlib.Core.Logic.{_≢_}
-use mathlib.Core.Bool.{Bool, true, false, not, _&&_}
+use mathlib.Core.Bool.{Bool, true, false}
 use mathlib.Core.List.{List, [], _∷_}
 use lib.Dec.{ltb, eqb}
 use lib.ListN.{length}
 use Rattle.model.specs.Image.{unless, first, schemas, rowCount, rowAt, rows, tiersOf, openCheck}
-use Rattle.model.specs.Ring.{ColumnValue, write, isInfinite}
+use Rattle.model.specs.Ring.{ColumnValue, write}
 use Rattle.model.specs.Lent.{Lent, ring, withRing, rowNo, firstRow}
-use Rattle.model.specs.Record.{Entry, seriesOf, handleOk, stampOk, writeTo, entryAt, entriesFrom, entries, everyEntry, keepEntry, entriesOf, writeSome, writeSchemas, batchCheck, batchOn}
+use Rattle.model.specs.Record.{Entry, seriesOf, stampOk, writeTo, entriesFrom, entries, everyEntry, keepEntry, entriesOf, writeSome, writeSchemas, batchCheck, batchOn}
 use Rattle.laws.specs.Tests.{lt-is, eq-is, and-left, and-right}
 use Rattle.frame.specs.Good.{Good, good-open, open-good}
 use Rattle.frame.specs.Frame.{length-write, good-write, schemas-with, rows-with}

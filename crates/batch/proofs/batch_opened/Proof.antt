@@ -3,18 +3,50 @@ use native.Mathlib.Omega.{arith}
 use mathlib.Core.Path.{_≡_, sym, _∙_}
 use mathlib.Core.Logic.{_≢_}
 use lib.ListN.{length}
-use Rattle.model.specs.Record.{entries}
-use Rattle.bits.specs.One.{lentAt}
+use mathlib.Core.Bool.{true}
+use Rattle.model.specs.Record.{stampOk, entries, everyEntry}
+use Rattle.entries.specs.Entries.{fits, finite}
 use borrow.Author.Tests.{not-true, not-false}
 use Rattle.batch.proofs.Laws.{length-entries, empty-batch, refused-handle, refused-stamp, refused-value, recorded}
 use borrow.Author.Needs.{needs}
 use Rattle.batch.proofs.batch_opened.Statement.{statement}
 use Rattle.batch.proofs.batch_opened.Tie as tie
 
+-- ---- what each test leaves, said once where it is known
+
+abbrev start : tie.Else1 → tie.Start
+start c = c .before .before .before
+
+some : (c : tie.Else1) → length (entries (start c .args .batch .now)) ≢ 0
+some c = λ e. omega (arith, length-entries (start c .args .batch .now))
+
+abbrev at-some : tie.After-any-outside → tie.Else1
+at-some c = c .before .before
+
+abbrev asked : tie.Else2 → tie.Start
+asked c = start (at-some (c .before))
+
+fit : (c : tie.Else2) → everyEntry (fits (asked c .args .image .now)) (entries (asked c .args .batch .now)) ≡ true
+fit c = not-false _ (sym (c .before .any-outside .ensures) ∙ c .if2 .left)
+
+abbrev at-fit : tie.After-any-infinite → tie.Else2
+at-fit c = c .before .before
+
+timely : (c : tie.Else3) → stampOk (asked (at-fit (c .before)) .args .stamp) ≡ true
+timely c = not-false _ (sym (c .before .before .is-bad-stamp .ensures) ∙ c .if3 .left)
+
+abbrev at-tests : tie.Else4 → tie.Else2
+at-tests c = at-fit (c .before .before)
+
+finites : (c : tie.Else4) → everyEntry finite (entries (asked (at-tests c) .args .batch .now)) ≡ true
+finites c = not-false _ (sym (c .before .before .any-infinite .ensures) ∙ c .if4 .left)
+
+-- ---- the needs
+
 returns : tie.Need-returns
 returns c =
-    let start = c .before .before .before in
-    empty-batch (lentAt (start .args .image .now) (start .args .flags)) (start .args .stamp) (start .pre) (entries (start .args .batch .now)) (omega (arith, length-entries (start .args .batch .now)))
+    let k = c .before .before .before in
+    empty-batch _ _ (k .pre) _ (omega (arith, length-entries (k .args .batch .now)))
 
 any-outside-requires : tie.Need-any-outside-requires
 any-outside-requires c κs = search needs
@@ -24,9 +56,8 @@ same-length c = search needs
 
 returns-2 : tie.Need-returns-2
 returns-2 c =
-    let start = c .before .before .before .before .before .before in
-    let z : length (entries (start .args .batch .now)) ≢ 0 = λ e. omega (arith, length-entries (start .args .batch .now)) in
-    refused-handle (lentAt (start .args .image .now) (start .args .flags)) (start .args .stamp) (start .pre) (entries (start .args .batch .now)) z (not-true _ (sym (c .before .any-outside .ensures) ∙ c .if2 .taken))
+    let k = at-some (c .before) in
+    refused-handle _ _ (start k .pre) _ (some k) (not-true _ (sym (c .before .any-outside .ensures) ∙ c .if2 .taken))
 
 is-bad-stamp-requires : tie.Need-is-bad-stamp-requires
 is-bad-stamp-requires c κs = search needs
@@ -39,30 +70,29 @@ same-length-2 c = search needs
 
 returns-3 : tie.Need-returns-3
 returns-3 c =
-    let start = c .before .before .before .before .before .before .before .before .before in
-    let z : length (entries (start .args .batch .now)) ≢ 0 = λ e. omega (arith, length-entries (start .args .batch .now)) in
-    refused-stamp (lentAt (start .args .image .now) (start .args .flags)) (start .args .stamp) (start .pre) (entries (start .args .batch .now)) z (not-false _ (sym (c .before .before .before .before .any-outside .ensures) ∙ c .before .before .before .if2 .left)) (not-true _ (sym (c .before .before .is-bad-stamp .ensures) ∙ c .if3 .taken))
+    let k = at-fit (c .before) in
+    refused-stamp _ _ (asked k .pre) _ (some (at-some (k .before))) (fit k) (not-true _ (sym (c .before .before .is-bad-stamp .ensures) ∙ c .if3 .taken))
 
 same-length-3 : tie.Need-same-length-3
 same-length-3 c = search needs
 
 returns-4 : tie.Need-returns-4
 returns-4 c =
-    let start = c .before .before .before .before .before .before .before .before .before .before in
-    let z : length (entries (start .args .batch .now)) ≢ 0 = λ e. omega (arith, length-entries (start .args .batch .now)) in
-    refused-value (lentAt (start .args .image .now) (start .args .flags)) (start .args .stamp) (start .pre) (entries (start .args .batch .now)) z (not-false _ (sym (c .before .before .before .before .before .any-outside .ensures) ∙ c .before .before .before .before .if2 .left)) (not-false _ (sym (c .before .before .before .is-bad-stamp .ensures) ∙ c .before .if3 .left)) (not-true _ (sym (c .before .before .any-infinite .ensures) ∙ c .if4 .taken))
+    let k = at-fit (c .before .before) in
+    let infinite = not-true _ (sym (c .before .before .any-infinite .ensures) ∙ c .if4 .taken) in
+    refused-value _ _ (asked k .pre) _ (some (at-some (k .before))) (fit k) (timely (c .before)) infinite
 
 store-schemas-requires : tie.Need-store-schemas-requires
-store-schemas-requires c κs = (c .before .before .before .before .before .before .before .before .before .before .before .pre, not-false _ (sym (c .before .before .before .before .before .before .any-outside .ensures) ∙ c .before .before .before .before .before .if2 .left))
+store-schemas-requires c κs = let k = at-tests (c .before) in (asked k .pre, fit k)
 
 same-length-4 : tie.Need-same-length-4
 same-length-4 c = search needs
 
 returns-5 : tie.Need-returns-5
 returns-5 c =
-    let start = c .before .before .before .before .before .before .before .before .before .before .before .before .before .before in
-    let z : length (entries (start .args .batch .now)) ≢ 0 = λ e. omega (arith, length-entries (start .args .batch .now)) in
-    recorded (lentAt (start .args .image .now) (start .args .flags)) (start .args .stamp) (start .pre) (entries (start .args .batch .now)) z (not-false _ (sym (c .before .before .before .before .before .before .before .before .before .any-outside .ensures) ∙ c .before .before .before .before .before .before .before .before .if2 .left)) (not-false _ (sym (c .before .before .before .before .before .before .before .is-bad-stamp .ensures) ∙ c .before .before .before .before .before .if3 .left)) (not-false _ (sym (c .before .before .before .before .before .before .any-infinite .ensures) ∙ c .before .before .before .before .if4 .left)) (c .before .before .store-schemas .ensures)
+    let d = c .before .before .before .before in
+    let k = at-tests d in
+    recorded _ _ (asked k .pre) _ (some (at-some (k .before))) (fit k) (timely (d .before)) (finites d) (c .before .before .store-schemas .ensures)
 
 pub batch-opened-spec : {M : Type 1} → statement M
 batch-opened-spec =

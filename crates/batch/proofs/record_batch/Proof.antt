@@ -6,6 +6,9 @@ use borrow.Author.Needs.{needs}
 use Rattle.batch.proofs.record_batch.Statement.{statement}
 use Rattle.batch.proofs.record_batch.Tie as tie
 
+abbrev numbered : tie.After-flags-of → tie.After-record-numbered
+numbered c = c .before .before .before
+
 number-of-requires : tie.Need-number-of-requires
 number-of-requires c κs = search needs
 
@@ -20,8 +23,8 @@ same-length c = search needs
 
 returns : tie.Need-returns
 returns c =
-    let start = c .before .before .before .before .before .before .before .before in
-    same-done (ap (lentBy (start .args .image .now)) (sym (c .before .before .before .before .before .number-of .ensures .1))) (ap (lentBy _) (c .flags-of .ensures)) (c .before .before .before .record-numbered .ensures)
+    let k = numbered c in
+    same-done (ap (lentBy _) (sym (k .before .before .number-of .ensures .1))) (ap (lentBy _) (c .flags-of .ensures)) (k .record-numbered .ensures)
 
 pub record-batch-spec : {M : Type 1} → statement M
 record-batch-spec =

@@ -1,8 +1,6 @@
 -- `batch::record_numbered` meets its contract: opening's refusal, or what `batch_opened` does. Assumes nothing.
-use mathlib.Core.Path.{_≡_, sym, ap, _∙_}
+use mathlib.Core.Path.{sym, ap, _∙_}
 use Rattle.model.specs.Words.{outcomeNo}
-use Rattle.model.specs.Record.{entries}
-use Rattle.bits.specs.One.{lentAt}
 use Rattle.rows.specs.First.{not-accepted}
 use Rattle.batch.proofs.Laws.{not-opened}
 use borrow.Author.Needs.{needs}
@@ -23,9 +21,8 @@ same-length c = search needs
 
 returns : tie.Need-returns
 returns c =
-    let start = c .before .before .before .before .before .before in
-    not-opened (lentAt (start .args .image .now) (start .args .flags)) (start .args .stamp) (entries (start .args .batch .now)) (outcomeNo (c .before .before .check-image .result))
-    (c .before .before .check-image .ensures) (not-accepted (c .enum-told2 .given .1))
+    let checked = c .before .before .check-image in
+    not-opened _ _ _ _ (checked .ensures) (not-accepted (c .enum-told2 .given .1))
 
 batch-opened-requires : tie.Need-batch-opened-requires
 batch-opened-requires c κs = sym (c .before .before .before .check-image .ensures) ∙ ap outcomeNo (c .before .enum-told .given .1)

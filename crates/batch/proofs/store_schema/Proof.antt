@@ -1,7 +1,9 @@
 -- `batch::store_schema` meets its contract: the slab of the schema's first row is lent on, and what comes back is put in its place. Assumes nothing.
 use native.Mathlib.Nat.{add-zero}
-use mathlib.Core.Path.{_≡_, sym, ap, _∙_}
+use mathlib.Core.Path.{_∙_}
+use mathlib.Core.List.{List}
 use Rattle.model.specs.Lent.{rowNo}
+use Rattle.model.specs.Ring.{ColumnValue}
 use Rattle.model.specs.Record.{entries, entriesOf, writeTo}
 use Rattle.lent.specs.Handle.{first-there}
 use Rattle.bits.specs.Bits.{bits}
@@ -11,13 +13,32 @@ use borrow.Author.Needs.{needs}
 use Rattle.batch.proofs.store_schema.Statement.{statement}
 use Rattle.batch.proofs.store_schema.Tie as tie
 
+-- ---- the places behind a need
+
+abbrev start : tie.After-first-row → tie.Start
+start c = c .before .before .before .before
+
+abbrev mine : tie.Start → List ColumnValue
+mine c = entriesOf (c .args .schema) (entries (c .args .batch .now))
+
+abbrev at-row : tie.After-slab-at → tie.After-first-row
+at-row c = c .before .before
+
+abbrev at-slab : tie.After-flag-at → tie.After-slab-at
+at-slab c = c .before
+
+abbrev at-flag : tie.After-slice-known2 → tie.After-flag-at
+at-flag c = c .before .before .before .before
+
+-- ---- the needs
+
 first-row-requires : tie.Need-first-row-requires
 first-row-requires c κs = search needs
 
 slab-at-requires : tie.Need-slab-at-requires
 slab-at-requires c κs =
-    let start = c .before .before .before .before .before in
-    (start .pre .0, rw (c .before .first-row .ensures .0) (first-there (start .args .image .now) (start .pre .0) (start .args .schema) (start .pre .1 .0)))
+    let k = start (c .before) in
+    (k .pre .0, rw (c .before .first-row .ensures .0) (first-there _ (k .pre .0) _ (k .pre .1 .0)))
 
 flag-at-requires : tie.Need-flag-at-requires
 flag-at-requires c κs = search needs
@@ -33,19 +54,17 @@ part-write-batch-end c = search needs
 
 write-batch-requires : tie.Need-write-batch-requires
 write-batch-requires c κs =
-    let start = c .before .before .before .before .before .before .before .before in (
-      lent-sound (c .before .before .slab-at .ensures),
-      (
-        c .before .before .slab-at .ensures .some-interval,
-        columns-at (start .args .image .now) (start .args .schema) (entries (start .args .batch .now)) (start .pre .0) (start .pre .1 .0) (start .pre .1 .1) (c .before .before .before .before .first-row .ensures .0) (c .before .before .slab-at .ensures .series-is),
-      ),
-    )
+    let k = at-slab (c .before) in
+    let slab = k .slab-at .ensures in
+    let pre = start (at-row k) .pre in
+    (lent-sound slab, (slab .some-interval, columns-at _ _ _ (pre .0) (pre .1 .0) (pre .1 .1) (at-row k .first-row .ensures .0) (slab .series-is)))
 
 with-flag-requires : tie.Need-with-flag-requires
 with-flag-requires c κs =
-    let start = c .before .before .before .before .before .before .before .before .before .before .before in
-    let w = lent-write (c .before .before .before .before .before .slab-at .ensures) (entriesOf (start .args .schema) (entries (start .args .batch .now))) (start .args .stamp) (search needs) (c .before .before .write-batch .ensures .0) in
-    (c .before .before .before .before .before .slab-at .ensures .few-rows, λ e. w .stays (c .before .before .before .before .flag-at .ensures ∙ e))
+    let k = at-flag c in
+    let slab = at-slab k .slab-at .ensures in
+    let w = lent-write slab (mine (start (at-row (at-slab k)))) _ (search needs) (c .before .before .write-batch .ensures .0) in
+    (slab .few-rows, λ e. w .stays (k .flag-at .ensures ∙ e))
 
 same-length : tie.Need-same-length
 same-length c = search needs
@@ -53,9 +72,11 @@ same-length c = search needs
 returns : tie.Need-returns
 unfolding writeTo rowNo
 returns c =
-    let start = c .before .before .before .before .before .before .before .before .before .before .before .before in
-    let w = lent-write (c .before .before .before .before .before .before .slab-at .ensures) (entriesOf (start .args .schema) (entries (start .args .batch .now))) (start .args .stamp) (search needs) (c .before .before .before .write-batch .ensures .0) in
-    rw (c .with-flag .ensures, add-zero, ← c .before .before .before .before .before .before .before .before .first-row .ensures .0) (w .lent-is (bits 32 (start .args .flags)) (c .before .before .before .before .before .flag-at .ensures))
+    let k = at-flag (c .before) in
+    let slab = at-slab k .slab-at .ensures in
+    let row = at-row (at-slab k) in
+    let w = lent-write slab (mine (start row)) _ (search needs) (c .before .before .before .write-batch .ensures .0) in
+    rw (c .with-flag .ensures, add-zero, ← row .first-row .ensures .0) (w .lent-is (bits 32 (start row .args .flags)) (k .flag-at .ensures))
 
 pub store-schema-spec : {M : Type 1} → statement M
 store-schema-spec =
