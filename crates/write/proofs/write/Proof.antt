@@ -1,5 +1,4 @@
 -- `write::write` meets its contract: stamp, cell and cursor, stored in this order, are the write. Assumes nothing.
-use mathlib.Core.Path.{_≡_}
 use native.Mathlib.Omega.{arith}
 use Rattle.rings.specs.Sound.{header-in}
 use Rattle.ring.specs.Parts.{sized, one}
@@ -8,11 +7,27 @@ use borrow.Author.Needs.{needs}
 use Rattle.write.proofs.write.Statement.{statement}
 use Rattle.write.proofs.write.Tie as tie
 
+-- the stamp is stored, then the cell, then the cursor; back from each to the one before it
+abbrev start : tie.After-write-stamp → tie.Start
+start c = c .before .before .before
+
+abbrev stamp : tie.After-write-cell-arg → tie.After-write-stamp
+stamp c = c .before .before .before
+
+abbrev at-cell : tie.After-write-cursor-arg → tie.After-write-cell-arg
+at-cell c = c .before .before .before .before
+
+abbrev at-cursor : tie.After-slice-known4 → tie.After-write-cursor-arg
+at-cursor c = c .before .before .before
+
 write-stamp-requires : tie.Need-write-stamp-requires
 write-stamp-requires c κs = search needs
 
 write-cell-requires : tie.Need-write-cell-requires
-write-cell-requires c κs = (sized (c .before .before .before .write-stamp .ensures .sound), (c .before .before .before .write-stamp .ensures .slot-in, search needs))
+write-cell-requires c κs =
+    let k = stamp c in
+    let t = k .write-stamp .ensures in
+    (sized (t .sound), (t .slot-in, search needs))
 
 write-cursor-requires : tie.Need-write-cursor-requires
 write-cursor-requires c κs = omega (arith, header-in (c .before .before .before .write-cell .ensures .1))
@@ -22,9 +37,8 @@ same-length c = search needs
 
 returns : tie.Need-returns
 returns c =
-    let start = c .before .before .before .before .before .before .before .before .before .before .before .before .before in
-    let t = c .before .before .before .before .before .before .before .before .before .before .write-stamp .ensures in
-    written (start .pre .0) (start .args .wrapped) (one (start .args .column) (start .args .value)) (start .args .stamp) (c .before .before .before .before .before .before .before .before .before .before .write-stamp .result .slot) (t .slot-is) (cc) (t .flag-is)
+    let k = stamp (at-cell (at-cursor c)) in
+    written (start k .pre .0) (k .write-stamp .ensures) (one _ _) (cc)
 
 pub write-spec : {M : Type 1} → statement M
 write-spec =

@@ -9,6 +9,9 @@ use borrow.Author.Needs.{needs}
 use Rattle.write.proofs.write_cell.Statement.{statement}
 use Rattle.write.proofs.write_cell.Tie as tie
 
+abbrev at-place : tie.After-slice-known2 → tie.After-cell-place
+at-place c = c .before .before .before .before
+
 cell-place-requires : tie.Need-cell-place-requires
 cell-place-requires c κs = search needs
 
@@ -21,12 +24,13 @@ same-length c = search needs
 returns : tie.Need-returns
 unfolding putCells
 returns c =
-    let start = c .before .before .before .before .before .before in
-    let s = start .args .slab .now in
-    let o = cellAt s (start .args .column) (start .args .slot) in
-    let at : c .before .before .before .before .cell-place .result ≡ o = cc (cell-place s (start .args .n) (start .args .m) (start .pre .0) (start .args .column) (start .args .slot)) in
-    let e : c .before .before .put-u64 .last .0 ≡ put 8 s o (start .args .value) = cc in
-    (e, rw e (sound-put (start .pre .0) o (start .args .value) (cellAt-high s (start .args .column) (start .args .slot))))
+    let start = at-place c .before .before in
+    let a = start .args in
+    let s = a .slab .now in
+    let o = cellAt s (a .column) (a .slot) in
+    let at : at-place c .cell-place .result ≡ o = cc (cell-place s _ _ (start .pre .0) (a .column) (a .slot)) in
+    let e : c .before .before .put-u64 .last .0 ≡ put 8 s o (a .value) = cc in
+    (e, rw e (sound-put (start .pre .0) o (a .value) (cellAt-high s (a .column) (a .slot))))
 
 pub write-cell-spec : {M : Type 1} → statement M
 write-cell-spec = tie.close (tie.spec cell-place-requires put-u64-requires same-length returns)

@@ -1,13 +1,14 @@
 -- `write::write_cells` meets its contract. The loop's invariant: the values from entry i on, stored in the slab as it is now, make what all values make of
 -- the slab that was lent. Assumes nothing.
-use Prim.Native.Nat.{_+_, _-_, _*_, _/_, _≤_}
+use Prim.Native.Nat.{ℕ, _+_, _-_, _*_, _/_, _≤_}
 use native.Mathlib.Omega.{arith}
 use native.Mathlib.Nat.{sub-zero}
 use mathlib.Core.Path.{_≡_, refl, sym, _∙_, subst}
+use mathlib.Core.List.{List, _∷_}
 use lib.ListN.{length}
 use borrow.Author.Tests.{eq-eqb, ne-eqb}
 use Rattle.model.specs.Bytes.{get}
-use Rattle.model.specs.Ring.{putCells, interval}
+use Rattle.model.specs.Ring.{ColumnValue, putCells, interval}
 use Rattle.model.specs.Record.{entries, entriesFrom, entriesOf}
 use Rattle.rings.specs.Sound.{Sound}
 use Rattle.ring.specs.Parts.{sized, one}
@@ -18,22 +19,64 @@ use borrow.Author.Needs.{needs}
 use Rattle.write.proofs.write_cells.Statement.{statement}
 use Rattle.write.proofs.write_cells.Tie as tie
 
+-- the values from entry i of count on
+abbrev rest : List ℕ → ℕ → ℕ → ℕ → List ColumnValue
+rest batch schema count i = entriesOf schema (entriesFrom batch i (count - i))
+
+record Inv (slab₀ : List ℕ) (n m slot : ℕ) (batch : List ℕ) (schema count : ℕ) (slab : List ℕ) (i : ℕ) : Type 0 where
+  in-bounds : i ≤ count
+  long : length slab ≡ length slab₀
+  sound : Sound slab n m (interval slab₀)
+  columns : Columns m (rest batch schema count i)
+  leads : putCells slab slot (rest batch schema count i) ≡ putCells slab₀ slot (entriesOf schema (entries batch))
+
 abbrev Inv-loop : tie.InvT-loop
-Inv-loop slab₀ n m slot batch schema count i₀ slab i =
-    (i ≤ count)
-    × (length slab ≡ length slab₀)
-    × Sound slab n m (interval slab₀)
-    × Columns m (entriesOf schema (entriesFrom batch i (count - i)))
-    × (putCells slab slot (entriesOf schema (entriesFrom batch i (count - i))) ≡ putCells slab₀ slot (entriesOf schema (entries batch)))
+Inv-loop slab₀ n m slot batch schema count i₀ slab i = Inv slab₀ n m slot batch schema count slab i
 
 abbrev μ-loop : tie.MeasureT-loop
 μ-loop slab₀ n m slot batch schema count i₀ slab i = count - i
 
+-- ---- entry i, said once where its schema is known
+
+abbrev turn : tie.After-get-u32 Inv-loop μ-loop → tie.At-loop Inv-loop μ-loop
+turn c = c .before .before
+
+abbrev start : tie.At-loop Inv-loop μ-loop → tie.Start Inv-loop μ-loop
+start c = c .before .before .before
+
+abbrev lent : tie.After-get-u32 Inv-loop μ-loop → List ℕ
+lent c = start (turn c) .args .batch .now
+
+-- the values from entry j on
+abbrev left : tie.After-get-u32 Inv-loop μ-loop → ℕ → List ColumnValue
+left c j = rest (lent c) (start (turn c) .args .schema) (length (lent c) / 16) j
+
+abbrev column : tie.After-get-u32 Inv-loop μ-loop → ℕ
+column c = get 4 (lent c) (16 * turn c .loop .i + 4)
+
+abbrev value : tie.After-get-u32 Inv-loop μ-loop → ℕ
+value c = get 8 (lent c) (16 * turn c .loop .i + 8)
+
+skipped : (c : tie.Then1 Inv-loop μ-loop) → left (c .before) (turn (c .before) .loop .i) ≡ left (c .before) (turn (c .before) .loop .i + 1)
+skipped c = skip-entry _ _ _ _ (c .before .before .loop-test .taken) (ne-eqb _ _ (λ z. c .if1 .taken (c .before .get-u32 .ensures .0 ∙ z)))
+
+kept : (c : tie.Else1 Inv-loop μ-loop)
+    → left (c .before) (turn (c .before) .loop .i) ≡ record { column = column (c .before); value = value (c .before) } ∷ left (c .before) (turn (c .before) .loop .i + 1)
+kept c = keep-entry _ _ _ _ (c .before .before .loop-test .taken) (eq-eqb _ _ (sym (c .before .get-u32 .ensures .0) ∙ c .if1 .left))
+
+abbrev at-kept : tie.After-write-cell-arg Inv-loop μ-loop → tie.Else1 Inv-loop μ-loop
+at-kept c = c .before .before .before
+
+abbrev at-cell : tie.After-slice-known2 Inv-loop μ-loop → tie.After-write-cell-arg Inv-loop μ-loop
+at-cell c = c .before .before .before
+
+-- ---- the needs
+
 loop-holds : tie.Need-loop-holds Inv-loop μ-loop
 unfolding entries
 loop-holds c =
-    let start = c .before .before in
-    (search needs, refl, start .pre .0, rw (sub-zero _) (start .pre .1 .1), rw (sub-zero _))
+    let pre = c .before .before .pre in
+    record { in-bounds = search needs; long = refl; sound = pre .0; columns = rw (sub-zero _) (pre .1 .1); leads = rw (sub-zero _) }
 
 mul-get-u32 : tie.Need-mul-get-u32 Inv-loop μ-loop
 mul-get-u32 c = search needs
@@ -49,10 +92,8 @@ loop-less c = search needs
 
 loop-again : tie.Need-loop-again Inv-loop μ-loop
 loop-again c =
-    let start = c .before .before .before .before .before .before in
-    let turn = c .before .before .before .loop in
-    let e = skip-entry (start .args .batch .now) (turn .i) (length (start .args .batch .now) / 16) (start .args .schema) (c .before .before .loop-test .taken) (ne-eqb _ _ (λ z. c .if1 .taken (c .before .get-u32 .ensures .0 ∙ z))) in
-    (omega arith, turn .inv .1, turn .inv .2, rw e at (turn .inv .3), rw e at (turn .inv .4))
+    let i = turn (c .before) .loop .inv in
+    record { in-bounds = omega arith; long = i .long; sound = i .sound; columns = rw (skipped c) at (i .columns); leads = rw (skipped c) at (i .leads) }
 
 mul-get-u32-2 : tie.Need-mul-get-u32-2 Inv-loop μ-loop
 mul-get-u32-2 c = search needs
@@ -74,10 +115,9 @@ get-u64-requires c κs = search needs
 
 write-cell-requires : tie.Need-write-cell-requires Inv-loop μ-loop
 write-cell-requires c κs =
-    let start = c .before .before .before .before .before .before .before .before .before in
-    let turn = c .before .before .before .before .before .before .loop in
-    let e = keep-entry (start .args .batch .now) (turn .i) (length (start .args .batch .now) / 16) (start .args .schema) (c .before .before .before .before .before .loop-test .taken) (eq-eqb _ _ (sym (c .before .before .before .before .get-u32 .ensures .0) ∙ c .before .before .before .if1 .left)) in
-    (sized (turn .inv .2), (search needs, omega (arith, (rw e at (turn .inv .3)) .0)))
+    let k = at-kept c in
+    let i = turn (k .before) .loop .inv in
+    (sized (i .sound), (search needs, omega (arith, (rw (kept k) at (i .columns)) .0)))
 
 add-i-2 : tie.Need-add-i-2 Inv-loop μ-loop
 add-i-2 c = search needs
@@ -87,18 +127,18 @@ loop-less-2 c = search needs
 
 loop-again-2 : tie.Need-loop-again-2 Inv-loop μ-loop
 loop-again-2 c =
-    let start = c .before .before .before .before .before .before .before .before .before .before .before .before in
-    let turn = c .before .before .before .before .before .before .before .before .before .loop in
-    let b = start .args .batch .now in
-    let i = turn .i in
-    let e = keep-entry b i (length b / 16) (start .args .schema) (c .before .before .before .before .before .before .before .before .loop-test .taken) (eq-eqb _ _ (sym (c .before .before .before .before .before .before .before .get-u32 .ensures .0) ∙ c .before .before .before .before .before .before .if1 .left)) in
-    let p : c .before .before .write-cell .last .0 ≡ putCells (turn .slab) (start .args .slot) (one (get 4 b (16 * i + 4)) (get 8 b (16 * i + 8))) = cc in (
-      omega arith,
-      search needs,
-      subst (Sound (c .before .before .write-cell .last .0) (start .args .n) (start .args .m)) (turn .inv .2 .interval-is) (c .before .before .write-cell .ensures .1),
-      (rw e at (turn .inv .3)) .1,
-      cell-turn (turn .slab) (start .args .slot) (get 4 b (16 * i + 4)) (get 8 b (16 * i + 8)) (entriesOf (start .args .schema) (entriesFrom b (i + 1) (length b / 16 - (i + 1)))) p (rw e at (turn .inv .4)),
-    )
+    let k = at-kept (at-cell c) in
+    let l = turn (k .before) .loop in
+    let cell = c .before .before .write-cell in
+    let slot = start (turn (k .before)) .args .slot in
+    let p : cell .last .0 ≡ putCells (l .slab) slot (one (column (k .before)) (value (k .before))) = cc in
+    record {
+      in-bounds = omega arith;
+      long = search needs;
+      sound = subst (Sound (cell .last .0) _ _) (l .inv .sound .interval-is) (cell .ensures .1);
+      columns = (rw (kept k) at (l .inv .columns)) .1;
+      leads = cell-turn (l .slab) slot _ _ (left (k .before) (l .i + 1)) p (rw (kept k) at (l .inv .leads));
+    }
 
 same-length : tie.Need-same-length Inv-loop μ-loop
 same-length c = search needs
@@ -106,9 +146,8 @@ same-length c = search needs
 returns : tie.Need-returns Inv-loop μ-loop
 unfolding putCells
 returns c =
-    let start = c .before .before .before .before in
-    let turn = c .before .loop in
-    rw (no-entry (start .args .batch .now) (turn .i) (length (start .args .batch .now) / 16) (start .args .schema) (c .loop-test .left)) at (turn .inv .4)
+    let l = c .before .loop in
+    rw (no-entry _ (l .i) _ (start (c .before) .args .schema) (c .loop-test .left)) at (l .inv .leads)
 
 pub write-cells-spec : {M : Type 1} → statement M
 write-cells-spec =

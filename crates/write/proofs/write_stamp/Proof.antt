@@ -1,5 +1,5 @@
 -- `write::write_stamp` meets its contract: the stamp's place is in the slab and behind its header. Assumes nothing.
-use mathlib.Core.Path.{_≡_, _∙_}
+use mathlib.Core.Path.{_≡_}
 use Rattle.model.specs.Bytes.{put}
 use Rattle.model.specs.Ring.{stampAt}
 use Rattle.laws.specs.Slab.{stampAt-high}
@@ -11,13 +11,23 @@ use borrow.Author.Needs.{needs}
 use Rattle.write.proofs.write_stamp.Statement.{statement}
 use Rattle.write.proofs.write_stamp.Tie as tie
 
+-- the slot is known, then the stamp's place; back from one to the other
+abbrev start : tie.After-slot-of → tie.Start
+start c = c .before .before
+
+abbrev at-slot : tie.After-stamp-place → tie.After-slot-of
+at-slot c = c .before .before .before .before
+
+abbrev at-place : tie.After-slice-known2 → tie.After-stamp-place
+at-place c = c .before .before .before .before
+
 slot-of-requires : tie.Need-slot-of-requires
 slot-of-requires c κs =
     let start = c .before in
     (start .pre .1, some-slots (start .pre .0))
 
 cursor-of-requires : tie.Need-cursor-of-requires
-cursor-of-requires c κs = sized (c .before .before .before .pre .0)
+cursor-of-requires c κs = sized (start (c .before) .pre .0)
 
 flag-after-requires : tie.Need-flag-after-requires
 flag-after-requires c κs = search needs
@@ -33,17 +43,17 @@ same-length c = search needs
 
 returns : tie.Need-returns
 returns c =
-    let start = c .before .before .before .before .before .before .before .before .before .before in
-    let s = start .args .slab .now in
-    let i = c .before .before .before .before .before .before .before .before .slot-of .result in
-    let at : c .before .before .before .before .stamp-place .result ≡ stampAt s i = cc (stamp-place s (start .args .n) (start .args .m) (sized (start .pre .0)) i) in
-    let e : c .before .before .put-u64 .last .0 ≡ put 8 s (stampAt s i) (start .args .stamp) = cc in
+    let slot = at-slot (at-place c) .slot-of in
+    let a = start (at-slot (at-place c)) in
+    let s = a .args .slab .now in
+    let at : at-place c .stamp-place .result ≡ stampAt s (slot .result) = cc (stamp-place s _ _ (sized (a .pre .0)) (slot .result)) in
+    let e : c .before .before .put-u64 .last .0 ≡ put 8 s (stampAt s (slot .result)) (a .args .stamp) = cc in
     record {
-      slot-is = c .before .before .before .before .before .before .before .before .slot-of .ensures .0;
-      slot-in = c .before .before .before .before .before .before .before .before .slot-of .ensures .1;
+      slot-is = slot .ensures .0;
+      slot-in = slot .ensures .1;
       flag-is = cc;
       slab-is = e;
-      sound = rw e (sound-put (start .pre .0) (stampAt s i) (start .args .stamp) (stampAt-high s i));
+      sound = rw e (sound-put (a .pre .0) _ _ (stampAt-high s (slot .result)));
     }
 
 pub write-stamp-spec : {M : Type 1} → statement M
