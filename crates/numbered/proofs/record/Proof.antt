@@ -3,12 +3,27 @@
 use native.Mathlib.Omega.{arith}
 use mathlib.Core.Path.{refl}
 use Rattle.lent.specs.Handle.{row-there}
-use Rattle.bits.specs.Bits.{bits}
 use Rattle.bits.specs.One.{lentAt}
-use Rattle.record.specs.Ready.{row-ready, refusal-ready, refused, recorded-as-off}
+use Rattle.record.specs.Ready.{ReadyAt, row-ready, refusal-ready, refused, recorded-as-off}
 use borrow.Author.Needs.{needs}
 use Rattle.numbered.proofs.record.Statement.{statement}
 use Rattle.numbered.proofs.record.Tie as tie
+
+-- ---- what `ready_opened` told, said once where it is known
+
+abbrev start : tie.After-ready-opened → tie.Start
+start c = c .before .before .before
+
+ready-at : (c : tie.After-found) → (let a = start (c .before .before) .args in ReadyAt (a .image .now) (a .handle .schema) (a .handle .column) (a .value) (a .stamp) (c .found .given .0 .0))
+ready-at c = row-ready (c .found .given .1) (c .before .before .ready-opened .ensures)
+
+abbrev at-row : tie.After-struct-known → tie.After-found
+at-row c = c .before .before .before
+
+abbrev at-store : tie.After-slice-known2 → tie.After-struct-known
+at-store c = c .before .before .before
+
+-- ---- the needs
 
 ready-opened-requires : tie.Need-ready-opened-requires
 ready-opened-requires c κs = search needs
@@ -21,12 +36,11 @@ cast-store c = search needs
 
 store-requires : tie.Need-store-requires
 store-requires c κs =
-    let a = c .before .before .before .before .before .before .before .before .args in
-    let r = row-ready (c .before .before .before .found .given .1) (c .before .before .before .before .before .ready-opened .ensures) in
-    (r .opened, row-there (lentAt (a .image .now) (a .flags .now)) (a .handle .schema) (a .handle .column) (r .opened) (r .row-is))
+    let r = ready-at (at-row c) in
+    (r .opened, row-there (lentAt _ (start (at-row c .before .before) .args .flags .now)) _ _ (r .opened) (r .row-is))
 
 with-flag-requires : tie.Need-with-flag-requires
-with-flag-requires c κs = (omega (arith, row-ready (c .before .before .before .before .before .before .before .before .found .given .1) (c .before .before .before .before .before .before .before .before .before .before .ready-opened .ensures) .few-rows), λ _. refl)
+with-flag-requires c κs = (omega (arith, ready-at (at-row (at-store (c .before .before))) .few-rows), λ _. refl)
 
 enum-known-found-2 : tie.Need-enum-known-found-2
 enum-known-found-2 c = search needs
@@ -39,24 +53,25 @@ same-length c = search needs
 
 returns : tie.Need-returns
 returns c =
-    let a = c .before .before .before .before .before .before .before .before .before .before .before .before .before .before .args in
-    recorded-as-off (a .image .now) (bits 32 (a .flags .now)) (a .handle .schema) (a .handle .column) (a .value) (a .stamp) (row-ready (c .before .before .before .before .before .before .before .before .before .found .given .1) (c .before .before .before .before .before .before .before .before .before .before .before .ready-opened .ensures)) (c .before .before .before .before .before .store .ensures) (rw (c .before .before .if1 .taken) (c .with-flag .ensures))
+    let k = c .before .before .before in
+    recorded-as-off _ _ _ _ _ _ (ready-at (at-row (at-store k))) (k .before .before .store .ensures) (rw (c .before .before .if1 .taken) (c .with-flag .ensures))
 
 same-length-2 : tie.Need-same-length-2
 same-length-2 c = search needs
 
 returns-2 : tie.Need-returns-2
 returns-2 c =
-    let a = c .before .before .before .before .before .before .before .before .before .before .before .before .args in
-    recorded-as-off (a .image .now) (bits 32 (a .flags .now)) (a .handle .schema) (a .handle .column) (a .value) (a .stamp) (row-ready (c .before .before .before .before .before .before .before .found .given .1) (c .before .before .before .before .before .before .before .before .before .ready-opened .ensures)) (c .before .before .before .store .ensures) (rw (c .if1 .left))
+    let k = c .before in
+    recorded-as-off _ _ _ _ _ _ (ready-at (at-row (at-store k))) (k .before .before .store .ensures) (rw (c .if1 .left))
 
 same-length-3 : tie.Need-same-length-3
 same-length-3 c = search needs
 
 returns-3 : tie.Need-returns-3
 returns-3 c =
-    let a = c .before .before .before .before .before .before .before .args in
-    rw (c .refusal-number .ensures) (refused (a .image .now) (bits 32 (a .flags .now)) (a .handle .schema) (a .handle .column) (a .value) (a .stamp) (c .before .before .found2 .given .0 .0) (refusal-ready (a .image .now) (a .handle .schema) (a .handle .column) (a .value) (a .stamp) (c .before .before .found2 .given .1) (c .before .before .before .before .ready-opened .ensures)))
+    let told = c .before .before .found2 .given in
+    let ready = c .before .before .before .before .ready-opened .ensures in
+    rw (c .refusal-number .ensures) (refused _ _ _ _ _ _ (told .0 .0) (refusal-ready _ _ _ _ _ (told .1) ready))
 
 pub record-spec : {M : Type 1} → statement M
 record-spec =
