@@ -18,7 +18,7 @@ any-stamp-requires : tie.Need-any-stamp-requires
 any-stamp-requires c κs = search needs
 
 returns : tie.Need-returns
-returns c = let start = c .before .before .before in c .any-stamp .ensures ∙ flag-is (start .args .slab .now) (start .args .n) (start .args .m) (start .pre) (c .before .cursor-of .ensures .0)
+returns c = c .any-stamp .ensures ∙ flag-is _ _ _ (c .before .before .before .pre) (c .before .cursor-of .ensures .0)
 
 pub wrap-flag-spec : {M : Type 1} → statement M
 wrap-flag-spec =
