@@ -4,15 +4,14 @@ use Prim.Native.Nat.{ℕ, suc, _+_, _*_, _%_, _≤_, _<_}
 use native.Mathlib.Nat.{mul-suc, mul-assoc, mul-le-mul-left, mod-eq-of-lt, mod-self}
 use native.Mathlib.Numerals.{add-one}
 use native.Mathlib.Omega.{arith}
-use mathlib.Core.Path.{_≡_, refl, sym}
+use mathlib.Core.Path.{_≡_, sym}
 use mathlib.Core.Logic.{_≢_}
 use mathlib.Core.Bool.{Bool, true, false}
 use mathlib.Core.List.{List}
 use borrow.Author.Tests.{eq-eqb, ne-eqb}
-use Rattle.model.specs.declared.Place.{Place}
 use Rattle.model.specs.Bytes.{get}
 use Rattle.model.specs.Layout.{stampsAt, columnAt}
-use Rattle.model.specs.Ring.{slots, series, cursor, stampAt, cellAt, stamp, cell, isEmpty, firstPlace}
+use Rattle.model.specs.Ring.{cursor, stampAt, cellAt, stamp, cell, isEmpty, firstPlace}
 use Rattle.ring.specs.Parts.{Sized, ringOf}
 
 -- column c's k bytes end where the next column's begin

@@ -2,7 +2,6 @@
 use Rattle.rings.specs.Sound.{header-in}
 use Rattle.model.specs.Ring.{cursor}
 use native.Mathlib.Omega.{arith}
-use borrow.Author.Needs.{needs}
 use Rattle.ring.proofs.cursor_of.Statement.{statement}
 use Rattle.ring.proofs.cursor_of.Tie as tie
 

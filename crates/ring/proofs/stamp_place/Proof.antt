@@ -1,7 +1,6 @@
 -- `ring::stamp_place` meets its contract: the place is within the slab. Assumes nothing.
 use Rattle.model.specs.Layout.{slabLength, stampsAt, columnAt, columnBehind, stampsBehind, directory}
 use native.Mathlib.Omega.{arith}
-use borrow.Author.Needs.{needs}
 use Rattle.ring.proofs.stamp_place.Statement.{statement}
 use Rattle.ring.proofs.stamp_place.Tie as tie
 
