@@ -1,27 +1,38 @@
 -- `entries::any_infinite` meets its contract. The loop's invariant: the test of the entries from entry i on is the test of all. Assumes nothing.
-use Prim.Native.Nat.{_+_, _-_, _*_, _/_, _≤_}
-use native.Mathlib.Nat.{sub-zero}
-use native.Mathlib.Omega.{arith}
+use Prim.Native.Nat.{ℕ, _+_, _-_, _*_}
 use mathlib.Core.Path.{_≡_, sym, ap, _∙_}
 use mathlib.Core.Bool.{true, false, not}
-use lib.ListN.{length}
+use mathlib.Core.List.{List}
 use Rattle.model.specs.Bytes.{get}
 use Rattle.model.specs.Ring.{isInfinite}
-use Rattle.model.specs.Record.{entriesFrom, entries, everyEntry}
+use Rattle.model.specs.Record.{everyEntry}
 use Rattle.entries.specs.Entries.{finite, finite-is, every-on, every-no, every-end}
+use Rattle.entries.proofs.Laws.{Testing, begins, goes-on, ends}
 use borrow.Author.Needs.{needs}
 use Rattle.entries.proofs.any_infinite.Statement.{statement}
 use Rattle.entries.proofs.any_infinite.Tie as tie
 
 abbrev Inv-loop : tie.InvT-loop
-Inv-loop batch count i₀ i = (i ≤ count) × (everyEntry finite (entriesFrom batch i (count - i)) ≡ everyEntry finite (entries batch))
+Inv-loop batch count i₀ i = Testing (everyEntry finite) batch count i
 
 abbrev μ-loop : tie.MeasureT-loop
 μ-loop batch count i₀ i = count - i
 
+abbrev in-turn : tie.After-is-infinite Inv-loop μ-loop → tie.In-loop Inv-loop μ-loop
+in-turn c = c .before .before
+
+abbrev turn : tie.After-is-infinite Inv-loop μ-loop → tie.At-loop Inv-loop μ-loop
+turn c = in-turn c .before
+
+abbrev lent : tie.At-loop Inv-loop μ-loop → List ℕ
+lent c = c .before .before .args .batch .now
+
+-- what was asked of entry i's value
+asked : (c : tie.After-is-infinite Inv-loop μ-loop) → isInfinite (get 8 (lent (turn c)) (16 * turn c .loop .i + 8)) ≡ c .is-infinite .result
+asked c = ap isInfinite (sym (c .before .get-u64 .ensures)) ∙ sym (c .is-infinite .ensures)
+
 loop-holds : tie.Need-loop-holds Inv-loop μ-loop
-unfolding entries
-loop-holds c = (search needs, rw (sub-zero _))
+loop-holds c = begins _ _
 
 mul-get-u64 : tie.Need-mul-get-u64 Inv-loop μ-loop
 mul-get-u64 c = search needs
@@ -37,11 +48,8 @@ is-infinite-requires c κs = search needs
 
 returns : tie.Need-returns Inv-loop μ-loop
 returns c =
-    let turn = c .before .before .before .before .loop in
-    let b = c .before .before .before .before .before .before .args .batch .now in
-    let i = turn .i in
-    let e : isInfinite (get 8 b (16 * i + 8)) ≡ true = ap isInfinite (sym (c .before .before .get-u64 .ensures)) ∙ sym (c .before .is-infinite .ensures) ∙ c .if1 .taken in
-    ap not (sym (every-no finite b i (length b / 16) (c .before .before .before .loop-test .taken) (finite-is b i true e)) ∙ turn .inv .1)
+    let k = c .before in
+    ap not (ends _ _ (turn k .loop .inv) (every-no _ _ _ _ (in-turn k .loop-test .taken) (finite-is _ _ true (asked k ∙ c .if1 .taken))))
 
 add-i : tie.Need-add-i Inv-loop μ-loop
 add-i c = search needs
@@ -51,17 +59,11 @@ loop-less c = search needs
 
 loop-again : tie.Need-loop-again Inv-loop μ-loop
 loop-again c =
-    let turn = c .before .before .before .before .loop in
-    let b = c .before .before .before .before .before .before .args .batch .now in
-    let i = turn .i in
-    let e : isInfinite (get 8 b (16 * i + 8)) ≡ false = ap isInfinite (sym (c .before .before .get-u64 .ensures)) ∙ sym (c .before .is-infinite .ensures) ∙ c .if1 .left in
-    (omega arith, sym (every-on finite b i (length b / 16) (c .before .before .before .loop-test .taken) (finite-is b i false e)) ∙ turn .inv .1)
+    let k = c .before in
+    goes-on _ _ (turn k .loop .inv) (every-on _ _ _ _ (in-turn k .loop-test .taken) (finite-is _ _ false (asked k ∙ c .if1 .left)))
 
 returns-2 : tie.Need-returns-2 Inv-loop μ-loop
-returns-2 c =
-    let start = c .before .before .before in
-    let turn = c .before .loop in
-    ap not (sym (every-end finite (start .args .batch .now) (turn .i) (length (start .args .batch .now) / 16) (c .loop-test .left)) ∙ turn .inv .1)
+returns-2 c = ap not (ends _ _ (c .before .loop .inv) (every-end _ _ _ _ (c .loop-test .left)))
 
 pub any-infinite-spec : {M : Type 1} → statement M
 any-infinite-spec =

@@ -1,31 +1,49 @@
 -- `entries::any_outside` meets its contract. The loop's invariant: the test of the entries from entry i on is the test of all. Assumes nothing.
-use Prim.Native.Nat.{_+_, _-_, _*_, _/_, _≤_}
-use native.Mathlib.Nat.{sub-zero}
-use native.Mathlib.Omega.{arith}
+use Prim.Native.Nat.{ℕ, _+_, _-_, _*_}
 use mathlib.Core.Path.{_≡_, sym, ap, _∙_}
 use mathlib.Core.Bool.{true, false, not}
-use mathlib.Core.List.{[]}
-use lib.ListN.{length}
+use mathlib.Core.List.{List, []}
 use Rattle.model.specs.Bytes.{get}
-use Rattle.model.specs.Lent.{Lent}
-use Rattle.model.specs.Record.{entriesFrom, entries, everyEntry}
+use Rattle.model.specs.Record.{everyEntry}
 use Rattle.lent.specs.Parts.{finestOf}
-use Rattle.lent.specs.declared.Finest.the-variants.{At, Missing}
 use Rattle.lent.specs.Handle.{handle-none, handle-at}
 use Rattle.entries.specs.Entries.{fits, fits-is, every-on, every-no, every-end}
+use Rattle.entries.proofs.Laws.{Testing, begins, goes-on, ends}
 use borrow.Author.Needs.{needs}
 use Rattle.entries.proofs.any_outside.Statement.{statement}
 use Rattle.entries.proofs.any_outside.Tie as tie
 
 abbrev Inv-loop : tie.InvT-loop
-Inv-loop image batch count i₀ i = (i ≤ count) × (everyEntry (fits image) (entriesFrom batch i (count - i)) ≡ everyEntry (fits image) (entries batch))
+Inv-loop image batch count i₀ i = Testing (everyEntry (fits image)) batch count i
 
 abbrev μ-loop : tie.MeasureT-loop
 μ-loop image batch count i₀ i = count - i
 
+abbrev in-turn : tie.After-finest-row Inv-loop μ-loop → tie.In-loop Inv-loop μ-loop
+in-turn c = c .before .before .before
+
+abbrev turn : tie.After-finest-row Inv-loop μ-loop → tie.At-loop Inv-loop μ-loop
+turn c = in-turn c .before
+
+abbrev start : tie.After-finest-row Inv-loop μ-loop → tie.Start Inv-loop μ-loop
+start c = turn c .before .before .before
+
+abbrev image : tie.After-finest-row Inv-loop μ-loop → List ℕ
+image c = start c .args .image .now
+
+-- entry i's schema and column
+abbrev schema : tie.After-finest-row Inv-loop μ-loop → ℕ
+schema c = get 4 (start c .args .batch .now) (16 * turn c .loop .i)
+
+abbrev column : tie.After-finest-row Inv-loop μ-loop → ℕ
+column c = get 4 (start c .args .batch .now) (16 * turn c .loop .i + 4)
+
+-- the row that was found for them
+found-is : (c : tie.After-finest-row Inv-loop μ-loop) → finestOf (image c) (schema c) (column c) ≡ c .finest-row .result
+found-is c = rw (← c .before .before .get-u32 .ensures .0, ← c .before .get-u322 .ensures .0) (sym (c .finest-row .ensures))
+
 loop-holds : tie.Need-loop-holds Inv-loop μ-loop
-unfolding entries
-loop-holds c = (search needs, rw (sub-zero _))
+loop-holds c = begins _ _
 
 mul-get-u32 : tie.Need-mul-get-u32 Inv-loop μ-loop
 mul-get-u32 c = search needs
@@ -53,13 +71,9 @@ enum-told-2 c = search needs
 
 returns : tie.Need-returns Inv-loop μ-loop
 returns c =
-    let start = c .before .before .before .before .before .before .before .before .before in
-    let turn = c .before .before .before .before .before .before .loop in
-    let s = start .args .image .now in
-    let b = start .args .batch .now in
-    let i = turn .i in
-    let e : finestOf s (get 4 b (16 * i)) (get 4 b (16 * i + 4)) ≡ Missing = rw (← c .before .before .before .before .get-u32 .ensures .0, ← c .before .before .before .get-u322 .ensures .0) (sym (c .before .before .finest-row .ensures) ∙ c .enum-told2 .given .1) in
-    ap not (sym (every-no (fits s) b i (length b / 16) (c .before .before .before .before .before .loop-test .taken) (fits-is b i s false (handle-none (record { image = s; flags = [] }) (get 4 b (16 * i)) (get 4 b (16 * i + 4)) e))) ∙ turn .inv .1)
+    let k = c .before .before in
+    let no = handle-none (record { image = image k; flags = [] }) _ _ (found-is k ∙ c .enum-told2 .given .1) in
+    ap not (ends _ _ (turn k .loop .inv) (every-no _ _ _ _ (in-turn k .loop-test .taken) (fits-is _ _ _ false no)))
 
 add-i : tie.Need-add-i Inv-loop μ-loop
 add-i c = search needs
@@ -69,19 +83,12 @@ loop-less c = search needs
 
 loop-again : tie.Need-loop-again Inv-loop μ-loop
 loop-again c =
-    let start = c .before .before .before .before .before .before .before .before .before in
-    let turn = c .before .before .before .before .before .before .loop in
-    let s = start .args .image .now in
-    let b = start .args .batch .now in
-    let i = turn .i in
-    let e : finestOf s (get 4 b (16 * i)) (get 4 b (16 * i + 4)) ≡ At (c .enum-told .given .0 .0) = rw (← c .before .before .before .before .get-u32 .ensures .0, ← c .before .before .before .get-u322 .ensures .0) (sym (c .before .before .finest-row .ensures) ∙ c .enum-told .given .1) in
-    (omega arith, sym (every-on (fits s) b i (length b / 16) (c .before .before .before .before .before .loop-test .taken) (fits-is b i s true (handle-at (record { image = s; flags = [] }) (get 4 b (16 * i)) (get 4 b (16 * i + 4)) e .0))) ∙ turn .inv .1)
+    let k = c .before .before in
+    let yes = handle-at (record { image = image k; flags = [] }) _ _ (found-is k ∙ c .enum-told .given .1) .0 in
+    goes-on _ _ (turn k .loop .inv) (every-on _ _ _ _ (in-turn k .loop-test .taken) (fits-is _ _ _ true yes))
 
 returns-2 : tie.Need-returns-2 Inv-loop μ-loop
-returns-2 c =
-    let start = c .before .before .before .before in
-    let turn = c .before .loop in
-    ap not (sym (every-end (fits (start .args .image .now)) (start .args .batch .now) (turn .i) (length (start .args .batch .now) / 16) (c .loop-test .left)) ∙ turn .inv .1)
+returns-2 c = ap not (ends _ _ (c .before .loop .inv) (every-end _ _ _ _ (c .loop-test .left)))
 
 pub any-outside-spec : {M : Type 1} → statement M
 any-outside-spec =
