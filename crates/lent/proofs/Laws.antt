@@ -1,24 +1,25 @@
 -- What a passed check tells of the places that the code reads: a row within the slice, its slab with its sizes; and the search for a schema's first row, one
 -- turn at a time. Assumes nothing.
 use Prim.Native.Nat.{ℕ, zero, suc, _+_, _-_, _*_, _≤_, _<_}
-use native.Mathlib.Nat.{add-zero, zero-add}
+use native.Mathlib.Nat.{add-zero, zero-add, sub-zero}
 use native.Mathlib.Numerals.{add-one}
 use native.Mathlib.Omega.{arith}
 use mathlib.Core.Path.{_≡_, refl, sym, ap, subst, _∙_}
+use mathlib.Core.Logic.{_≢_}
 use mathlib.Core.Bool.{Bool, true, false, _&&_, cond}
 use mathlib.Core.List.{List}
 use lib.Dec.{ltb, eqb}
 use lib.ListN.{length}
+use borrow.Author.Tests.{eq-eqb, ne-eqb}
 use Rattle.model.specs.declared.Row.{Row}
 use Rattle.model.specs.Bytes.{get}
-use Rattle.model.specs.Layout.{slabLength}
 use Rattle.model.specs.Image.{schemas, rowCount, rowPlace, rowAt, rowsFrom, rows, rowSlots, tiersOf, slabOf, openCheck}
 use Rattle.model.specs.Ring.{slots}
 use Rattle.model.specs.Lent.{firstRow}
 use Rattle.model.specs.Record.{seriesOf}
 use Rattle.laws.specs.Tests.{yes-lt, no-lt, lt-is, eq-is}
 use Rattle.laws.specs.Bytes.{get-part}
-use Rattle.rings.specs.Sound.{Sound, header-in}
+use Rattle.rings.specs.Sound.{header-in}
 use Rattle.frame.specs.Good.{Good, good-open, inside-slice, length-slab, slab-sound, tier-of}
 use Rattle.lent.specs.Parts.{SlabAt, finestOf}
 use Rattle.lent.specs.Handle.{first-there, series-there}
@@ -80,23 +81,45 @@ module _ (s : List ℕ) (h : openCheck s ≡ 0) where
 -- ---- the first row of a schema
 
 -- row i of c: the search goes on, or ends
-pub first-on : (s : List ℕ) (k i c : ℕ) → i < c → eqb (get 4 s (rowPlace i + 0)) k ≡ false → i + firstRow k (rowsFrom s i (c - i)) ≡ i + 1 + firstRow k (rowsFrom s (i + 1) (c - (i + 1)))
+first-on : (s : List ℕ) (k i c : ℕ) → i < c → eqb (get 4 s (rowPlace i + 0)) k ≡ false → i + firstRow k (rowsFrom s i (c - i)) ≡ i + 1 + firstRow k (rowsFrom s (i + 1) (c - (i + 1)))
 unfolding firstRow rowsFrom rowAt
 first-on s k i c h e =
     let f : c - i ≡ suc (c - (i + 1)) = omega arith in
     let e' : eqb (get 4 s (rowPlace i)) k ≡ false = rw add-zero at e in
     rw (f, add-one i, e') (omega arith)
 
-pub first-here : (s : List ℕ) (k i c : ℕ) → i < c → eqb (get 4 s (rowPlace i + 0)) k ≡ true → i + firstRow k (rowsFrom s i (c - i)) ≡ i
+first-here : (s : List ℕ) (k i c : ℕ) → i < c → eqb (get 4 s (rowPlace i + 0)) k ≡ true → i + firstRow k (rowsFrom s i (c - i)) ≡ i
 unfolding firstRow rowsFrom rowAt
 first-here s k i c h e =
     let f : c - i ≡ suc (c - (i + 1)) = omega arith in
     let e' : eqb (get 4 s (rowPlace i)) k ≡ true = rw add-zero at e in
     rw (f, e', add-zero)
 
-pub first-past : (s : List ℕ) (k i c : ℕ) → c ≤ i → i + firstRow k (rowsFrom s i (c - i)) ≡ i
+first-past : (s : List ℕ) (k i c : ℕ) → c ≤ i → i + firstRow k (rowsFrom s i (c - i)) ≡ i
 unfolding firstRow rowsFrom
 first-past s k i c h = let f : c - i ≡ 0 = omega arith in rw (f, add-zero)
+
+-- the search under way: the first row is the first of those from row i of c on
+pub record Finding (s : List ℕ) (k c i : ℕ) : Type 0 where
+  pub in-bounds : i ≤ c
+  pub count-is : c ≡ rowCount s
+  pub same : i + firstRow k (rowsFrom s i (c - i)) ≡ firstRow k (rows s)
+
+pub begins : (s : List ℕ) (k : ℕ) {c : ℕ} → c ≡ rowCount s → Finding s k c 0
+unfolding rows
+begins s k e = record { in-bounds = omega arith; count-is = e; same = rw (e, sub-zero, zero-add) }
+
+module _ {s : List ℕ} {k c i : ℕ} (r : Finding s k c i) where
+  -- with row i's schema x
+  module _ {x : ℕ} (h : i < c) (e : x ≡ get 4 s (rowPlace i + 0)) where
+    pub goes-on : x ≢ k → Finding s k c (i + 1)
+    goes-on f = record { in-bounds = omega arith; count-is = r .count-is; same = sym (first-on s k i c h (ne-eqb _ _ (λ z. f (e ∙ z)))) ∙ r .same }
+
+    pub found : x ≡ k → i ≡ firstRow k (rows s)
+    found f = sym (first-here s k i c h (eq-eqb _ _ (sym e ∙ f))) ∙ r .same
+
+  pub ends : c ≤ i → i ≡ firstRow k (rows s)
+  ends h = sym (first-past s k i c h) ∙ r .same
 
 -- one that is found has the schema
 first-has : (k : ℕ) (s : List ℕ) (i n : ℕ) → firstRow k (rowsFrom s i n) < n → rowAt s (i + firstRow k (rowsFrom s i n)) .schema ≡ k

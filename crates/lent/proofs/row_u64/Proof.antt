@@ -1,30 +1,25 @@
 -- `lent::row_u64` meets its contract: the row lies within the slice. Assumes nothing.
 use native.Mathlib.Omega.{arith}
-use Rattle.model.specs.Image.{rowPlace}
+use Prim.Native.Nat.{_≤_}
+use Rattle.model.specs.Image.{rowCount, rowPlace}
 use Rattle.lent.proofs.Laws.{few-rows, row-in-slice}
-use borrow.Author.Needs.{needs}
 use Rattle.lent.proofs.row_u64.Statement.{statement}
 use Rattle.lent.proofs.row_u64.Tie as tie
 
+few : (c : tie.After-shared-slice-known) → rowCount (c .before .args .image .now) ≤ 32
+few c = few-rows _ (c .before .pre .0)
+
 mul-get-u64 : tie.Need-mul-get-u64
-mul-get-u64 c =
-    let start = c .before in
-    omega (arith, few-rows (start .args .image .now) (start .pre .0))
+mul-get-u64 c = omega (arith, few c)
 
 add-get-u64 : tie.Need-add-get-u64
-add-get-u64 c =
-    let start = c .before in
-    omega (arith, few-rows (start .args .image .now) (start .pre .0))
+add-get-u64 c = omega (arith, few c)
 
 add-get-u64-2 : tie.Need-add-get-u64-2
-add-get-u64-2 c =
-    let start = c .before in
-    omega (arith, few-rows (start .args .image .now) (start .pre .0))
+add-get-u64-2 c = omega (arith, few c)
 
 get-u64-requires : tie.Need-get-u64-requires
-get-u64-requires c κs =
-    let start = c .before in
-    omega (arith, row-in-slice (start .args .image .now) (start .pre .0) (start .args .row) (start .pre .1 .0))
+get-u64-requires c κs = let pre = c .before .pre in omega (arith, row-in-slice _ (pre .0) _ (pre .1 .0))
 
 returns : tie.Need-returns
 unfolding rowPlace
