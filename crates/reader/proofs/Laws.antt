@@ -90,23 +90,34 @@ module _ (s : List ℕ) {n m : ℕ} (h : Held s n m) where
   unfolding cell cellAt
   cell-is c i = rw (h .slots-is, h .series-is)
 
--- ---- one turn: slot i, with k left; t is its stamp, j the next slot
+-- ---- one turn
 
-module _ (s : List ℕ) (c start end : ℕ) {n m : ℕ} (h : Held s n m) (i k : ℕ) (some : 0 < k) {x : Stepped} (inv : stepFrom s c start end i k ≡ x) {t j : ℕ} (t-is : t ≡ stamp s i) (j-is : j ≡ suc i % n) where
+-- slot i, with k left, where a step gives x; t is its stamp, j the next slot
+pub record Turn (s : List ℕ) (c start end n m i k : ℕ) (x : Stepped) (t j : ℕ) : Type 0 where
+  pub held : Held s n m
+  pub some : 0 < k
+  pub same : stepFrom s c start end i k ≡ x
+  pub stamp-is : t ≡ stamp s i
+  pub next-is : j ≡ suc i % n
+
+module _ {s : List ℕ} {c start end n m i k : ℕ} {x : Stepped} {t j : ℕ} (h : Turn s c start end n m i k x t j) where
   by-test : (l : ℕ) → k ≡ suc l → x ≡ cond (isHanded s c start end i) (stepped (handed s c i) j l) (stepFrom s c start end j l)
   unfolding stepFrom
-  by-test l e = sym inv ∙ rw (e, j-is, h .slots-is)
+  by-test l e = sym (h .same) ∙ rw (e, h .next-is, h .held .slots-is)
+
+  one-less : k ≡ suc (k - 1)
+  one-less = omega (arith, h .some)
 
   skipped : isHanded s c start end i ≡ false → stepFrom s c start end j (k - 1) ≡ x
-  skipped f = sym (by-test (k - 1) (omega arith) ∙ rw f)
+  skipped f = sym (by-test (k - 1) one-less ∙ rw f)
 
   pub skip-early : t < start → stepFrom s c start end j (k - 1) ≡ x
   unfolding isHanded
-  skip-early l = skipped (rw (← t-is, no-le start t l))
+  skip-early l = skipped (rw (← h .stamp-is, no-le start t l))
 
   pub skip-late : end ≤ t → stepFrom s c start end j (k - 1) ≡ x
   unfolding isHanded
-  skip-late l = skipped (rw (← t-is, no-lt t end l) (go (leb start t)))
+  skip-late l = skipped (rw (← h .stamp-is, no-lt t end l) (go (leb start t)))
     where
       go : (y : Bool) → y && false && not (isNaN (cell s c i)) ≡ false
       go true = refl
@@ -115,14 +126,14 @@ module _ (s : List ℕ) (c start end : ℕ) {n m : ℕ} (h : Held s n m) (i k : 
   module _ (from : start ≤ t) (to : t < end) {v : ℕ} (v-is : v ≡ cell s c i) {nan : Bool} (nan-is : nan ≡ isNaN v) where
     handed-is : isHanded s c start end i ≡ not nan
     unfolding isHanded
-    handed-is = rw (← t-is, yes-le start t from, yes-lt t end to, nan-is, v-is)
+    handed-is = rw (← h .stamp-is, yes-le start t from, yes-lt t end to, nan-is, v-is)
 
     pub skip-nan : nan ≡ true → stepFrom s c start end j (k - 1) ≡ x
     skip-nan e = skipped (handed-is ∙ rw e)
 
     pub hand-out : nan ≡ false → stepped (Handed (record { stamp = t; value = v })) j (k - 1) ≡ x
     unfolding handed
-    hand-out e = sym (by-test (k - 1) (omega arith) ∙ rw (handed-is, e, ← t-is, ← v-is))
+    hand-out e = sym (by-test (k - 1) one-less ∙ rw (handed-is, e, ← h .stamp-is, ← v-is))
 
 -- no slot is left
 pub finished : (s : List ℕ) (c start end i : ℕ) {k : ℕ} {x : Stepped} → stepFrom s c start end i k ≡ x → k ≡ 0 → stepped Finished i 0 ≡ x

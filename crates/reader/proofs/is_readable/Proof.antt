@@ -1,12 +1,44 @@
 -- `reader::is_readable` meets its contract: without a sum or a product that wraps. Assumes nothing.
+use Prim.Native.Nat.{ℕ, _≤_}
 use native.Mathlib.Omega.{arith}
+use mathlib.Core.Path.{_≡_}
+use mathlib.Core.List.{List}
+use lib.ListN.{length}
+use Rattle.model.specs.declared.Place.{Place}
+use Rattle.model.specs.Bytes.{get}
 use Rattle.reader.proofs.Laws.{cells-fit, unreadable, no-directory, no-room, no-column, no-slot, left-decides}
 use borrow.Author.Needs.{needs}
 use Rattle.reader.proofs.is_readable.Statement.{statement}
 use Rattle.reader.proofs.is_readable.Tie as tie
 
+-- ---- both sizes are read
+
+abbrev start : tie.After-get-u322 → tie.Start
+start k = k .before .before .before .before
+
+abbrev slice : tie.After-get-u322 → List ℕ
+slice k = start k .args .slab .now
+
+abbrev at : tie.After-get-u322 → Place
+at k = start k .args .place
+
+slots-are : (k : tie.After-get-u322) → k .before .get-u32 .result ≡ get 4 (slice k) 16
+slots-are k = k .before .get-u32 .ensures .0
+
+series-are : (k : tie.After-get-u322) → k .get-u322 .result ≡ get 4 (slice k) 20
+series-are k = k .get-u322 .ensures .0
+
+header : (k : tie.After-get-u322) → 64 ≤ length (slice k)
+header k = k .before .before .if1 .left
+
+-- the slab is whole
+abbrev sizes : tie.Else3 → tie.After-get-u322
+sizes c = c .before .before
+
+-- ---- the needs
+
 returns : tie.Need-returns
-returns c = unreadable (c .before .before .args .slab .now) (c .before .before .args .column) (c .before .before .args .place) (c .if1 .taken)
+returns c = let a = c .before .before .args in unreadable (a .slab .now) (a .column) (a .place) (c .if1 .taken)
 
 get-u32-requires : tie.Need-get-u32-requires
 get-u32-requires c κs = search needs
@@ -21,7 +53,7 @@ mul-if2 : tie.Need-mul-if2
 mul-if2 c = search needs
 
 returns-2 : tie.Need-returns-2
-returns-2 c = no-directory (c .before .before .before .before .before .args .slab .now) (c .before .before .before .before .before .args .column) (c .before .before .before .before .before .args .place) (c .before .before .get-u32 .ensures .0) (c .before .get-u322 .ensures .0) (c .before .before .before .if1 .left) (c .if2 .taken)
+returns-2 c = let k = c .before in no-directory (slice k) (start k .args .column) (at k) (slots-are k) (series-are k) (header k) (c .if2 .taken)
 
 mul-if3 : tie.Need-mul-if3
 mul-if3 c = search needs
@@ -33,19 +65,28 @@ add-if3 : tie.Need-add-if3
 add-if3 c = search needs
 
 mul-if3-2 : tie.Need-mul-if3-2
-mul-if3-2 c = omega (arith, cells-fit (c .before .before .get-u32 .result) (c .before .get-u322 .result) (c .before .before .get-u32 .ensures .1) (c .before .get-u322 .ensures .1))
+mul-if3-2 c = let k = c .before in omega (arith, cells-fit (k .before .get-u32 .result) (k .get-u322 .result) (k .before .get-u32 .ensures .1) (k .get-u322 .ensures .1))
 
 returns-3 : tie.Need-returns-3
-returns-3 c = no-room (c .before .before .before .before .before .before .args .slab .now) (c .before .before .before .before .before .before .args .column) (c .before .before .before .before .before .before .args .place) (c .before .before .before .get-u32 .ensures .0) (c .before .before .get-u322 .ensures .0) (c .before .before .before .before .if1 .left) (c .if3 .taken)
+returns-3 c = let k = c .before .before in no-room (slice k) (start k .args .column) (at k) (slots-are k) (series-are k) (header k) (c .if3 .taken)
 
 returns-4 : tie.Need-returns-4
-returns-4 c = no-column (c .before .before .before .before .before .before .before .args .slab .now) (c .before .before .before .before .before .before .before .args .column) (c .before .before .before .before .before .before .before .args .place) (c .before .before .before .before .get-u32 .ensures .0) (c .before .before .before .get-u322 .ensures .0) (c .before .before .before .before .before .if1 .left) (c .before .before .if2 .left) (c .before .if3 .left) (c .if4 .taken)
+returns-4 c =
+    let e = c .before in
+    let k = sizes e in
+    no-column (slice k) (start k .args .column) (at k) (slots-are k) (series-are k) (header k) (e .before .if2 .left) (e .if3 .left) (c .if4 .taken)
 
 returns-5 : tie.Need-returns-5
-returns-5 c = no-slot (c .before .before .before .before .before .before .before .before .args .slab .now) (c .before .before .before .before .before .before .before .before .args .column) (c .before .before .before .before .before .before .before .before .args .place) (c .before .before .before .before .before .get-u32 .ensures .0) (c .before .before .before .before .get-u322 .ensures .0) (c .before .before .before .before .before .before .if1 .left) (c .before .before .before .if2 .left) (c .before .before .if3 .left) (c .before .if4 .left) (c .if5 .taken)
+returns-5 c =
+    let e = c .before .before in
+    let k = sizes e in
+    no-slot (slice k) (start k .args .column) (at k) (slots-are k) (series-are k) (header k) (e .before .if2 .left) (e .if3 .left) (c .before .if4 .left) (c .if5 .taken)
 
 returns-6 : tie.Need-returns-6
-returns-6 c = left-decides (c .before .before .before .before .before .before .before .before .args .slab .now) (c .before .before .before .before .before .before .before .before .args .column) (c .before .before .before .before .before .before .before .before .args .place) (c .before .before .before .before .before .get-u32 .ensures .0) (c .before .before .before .before .get-u322 .ensures .0) (c .before .before .before .before .before .before .if1 .left) (c .before .before .before .if2 .left) (c .before .before .if3 .left) (c .before .if4 .left) (c .if5 .left)
+returns-6 c =
+    let e = c .before .before in
+    let k = sizes e in
+    left-decides (slice k) (start k .args .column) (at k) (slots-are k) (series-are k) (header k) (e .before .if2 .left) (e .if3 .left) (c .before .if4 .left) (c .if5 .left)
 
 pub is-readable-spec : {M : Type 1} → statement M
 is-readable-spec =
