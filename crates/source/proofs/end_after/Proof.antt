@@ -18,7 +18,7 @@ add-result : tie.Need-add-result
 add-result c = omega (arith, zero-at _ (c .before .newest .given .1))
 
 returns-2 : tie.Need-returns-2
-returns-2 c = (after-at _ (c .before .newest .given .1), omega (arith, zero-at _ (c .before .newest .given .1)))
+returns-2 c = let e = c .before .newest .given .1 in (after-at _ e, omega (arith, zero-at _ e))
 
 pub end-after-spec : {M : Type 1} → statement M
 end-after-spec = tie.close (tie.spec enum-known-newest enum-told returns add-result returns-2)

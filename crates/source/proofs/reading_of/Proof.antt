@@ -9,14 +9,14 @@ newest-requires : tie.Need-newest-requires
 newest-requires c κs = sized (c .before .pre .0)
 
 end-after-requires : tie.Need-end-after-requires
-end-after-requires c κs = rw (c .newest .ensures) (newest-is-low (sized (c .before .before .pre .0)) (c .before .before .args .wrapped) (c .before .before .pre .1 .1))
+end-after-requires c κs = let a = c .before .before in rw (c .newest .ensures) (newest-is-low (sized (a .pre .0)) (a .args .wrapped) (a .pre .1 .1))
 
 start-of-requires : tie.Need-start-of-requires
-start-of-requires c κs = (c .before .before .before .pre .0, c .before .before .before .pre .1 .0)
+start-of-requires c κs = let a = c .before .before .before in (a .pre .0, a .pre .1 .0)
 
 returns : tie.Need-returns
 unfolding readingOf
-returns c = (rw (c .before .end-after .ensures .0, c .before .before .newest .ensures, c .start-of .ensures), c .before .end-after .ensures .1)
+returns c = let e = c .before in (rw (e .end-after .ensures .0, e .before .newest .ensures, c .start-of .ensures), e .end-after .ensures .1)
 
 pub reading-of-spec : {M : Type 1} → statement M
 reading-of-spec = tie.close (tie.spec newest-requires end-after-requires start-of-requires returns)

@@ -9,7 +9,10 @@ window-of-requires : tie.Need-window-of-requires
 window-of-requires c κs = search needs
 
 returns : tie.Need-returns
-returns c = let a = c .before .before .before .args in start-mark (a .mark) (a .long) (ringOf (a .slab .now) (a .wrapped)) (c .before .if1 .taken) (c .window-of .ensures .0)
+returns c =
+    let k = c .before in
+    let a = k .before .before .args in
+    start-mark (a .mark) (a .long) (ringOf (a .slab .now) (a .wrapped)) (k .if1 .taken) (c .window-of .ensures .0)
 
 oldest-requires : tie.Need-oldest-requires
 oldest-requires c κs = sized (c .before .before .pre .0)
@@ -18,7 +21,11 @@ or-zero-requires : tie.Need-or-zero-requires
 or-zero-requires c κs = search needs
 
 returns-2 : tie.Need-returns-2
-returns-2 c = let a = c .before .before .before .before .args in start-oldest (a .mark) (a .long) (ringOf (a .slab .now) (a .wrapped)) (c .before .before .if1 .left) (c .before .oldest .ensures) (c .or-zero .ensures)
+returns-2 c =
+    let o = c .before in
+    let k = o .before in
+    let a = k .before .before .args in
+    start-oldest (a .mark) (a .long) (ringOf (a .slab .now) (a .wrapped)) (k .if1 .left) (o .oldest .ensures) (c .or-zero .ensures)
 
 pub start-of-spec : {M : Type 1} → statement M
 start-of-spec = tie.close (tie.spec window-of-requires returns oldest-requires or-zero-requires returns-2)
