@@ -42,7 +42,7 @@ refused-rest u i zero h = refl
 refused-rest u i (suc k) h =
     ap (λ (v : Run). pairs v (suc i) k) (if-refused (eqb (row (u .lent) i .schema) (row (u .lent) (suc i) .schema)) (u .refusal) u i h) ∙ refused-rest u (suc i) k h
 
-abbrev sameSchema : Run → ℕ → Bool
+abbrev pub sameSchema : Run → ℕ → Bool
 sameSchema u i = eqb (rowAt (u .lent .image) i .schema) (rowAt (u .lent .image) (suc i) .schema)
 
 module _ (u : Run) (i n : ℕ) (h : i + 1 < n) {total : Run} (k : pairs u i (n - 1 - i) ≡ total) where
