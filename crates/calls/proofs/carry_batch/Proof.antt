@@ -1,7 +1,8 @@
 -- `calls::carry_batch` meets its contract: the part that is lent on is the call's entries, and `batch::record_batch` does the rest. Assumes nothing.
-use Prim.Native.Nat.{_+_, _-_, _*_}
+use Prim.Native.Nat.{ℕ, _+_, _-_, _*_}
 use native.Mathlib.Omega.{arith}
 use mathlib.Core.Path.{_≡_}
+use mathlib.Core.List.{List}
 use Rattle.model.specs.Bytes.{u32, part}
 use Rattle.lent.specs.Parts.{lentOf}
 use Rattle.calls.specs.Encoded.{batchSize}
@@ -9,6 +10,22 @@ use Rattle.calls.proofs.Laws.{batch-recorded}
 use borrow.Author.Needs.{needs}
 use Rattle.calls.proofs.carry_batch.Statement.{statement}
 use Rattle.calls.proofs.carry_batch.Tie as tie
+
+-- ---- the number of entries and the stamp are read
+
+abbrev start : tie.After-get-u64 → tie.Start
+start k = k .before .before .before .before
+
+abbrev list : tie.After-get-u64 → List ℕ
+list k = start k .args .calls .now
+
+abbrev at : tie.After-get-u64 → ℕ
+at k = start k .args .at
+
+long-as : (k : tie.After-get-u64) → at k + 32 + 16 * k .before .get-u32 .result - (at k + 32) ≡ 16 * u32 (list k) (at k + 12)
+long-as k = omega (arith, k .before .get-u32 .ensures .0)
+
+-- ---- the needs
 
 add-get-u32 : tie.Need-add-get-u32
 add-get-u32 c = search needs
@@ -52,10 +69,10 @@ same-length c = search needs
 returns : tie.Need-returns
 unfolding part
 returns c =
-    let b = c .before .before .before .before .before .before .before .before .before .before .args .calls .now in
-    let o = c .before .before .before .before .before .before .before .before .before .before .args .at in
-    let e : o + 32 + 16 * c .before .before .before .before .before .before .before .get-u32 .result - (o + 32) ≡ 16 * u32 b (o + 12) = omega (arith, c .before .before .before .before .before .before .before .get-u32 .ensures .0) in
-    batch-recorded (lentOf (c .before .before .before .before .before .before .before .before .before .before .args .image .now) (c .before .before .before .before .before .before .before .before .before .before .args .flags)) b o (c .before .before .before .record-batch .ensures) e (c .before .before .before .before .before .before .get-u64 .ensures)
+    let done = c .before .before .before in
+    let k = done .before .before .before in
+    let a = start k .args in
+    batch-recorded (lentOf (a .image .now) (a .flags)) (list k) (at k) (done .record-batch .ensures) (long-as k) (k .get-u64 .ensures)
 
 pub carry-batch-spec : {M : Type 1} → statement M
 carry-batch-spec =

@@ -48,7 +48,7 @@ read4 c = read3 (c .before)
 -- ---- the needs
 
 get-u32-requires : tie.Need-get-u32-requires
-get-u32-requires c κs = omega (arith, size-low (c .before .before .args .calls .now) (c .before .before .args .at))
+get-u32-requires c κs = let a = c .before .before .args in omega (arith, size-low (a .calls .now) (a .at))
 
 carry-record-requires : tie.Need-carry-record-requires
 carry-record-requires c κs = head-in (c .before .before)

@@ -5,6 +5,10 @@ use borrow.Author.Needs.{needs}
 use Rattle.calls.proofs.carry_record.Statement.{statement}
 use Rattle.calls.proofs.carry_record.Tie as tie
 
+-- the four fields are read
+abbrev start : tie.After-get-u642 → tie.Start
+start k = k .before .before .before .before .before .before
+
 add-get-u32 : tie.Need-add-get-u32
 add-get-u32 c = search needs
 
@@ -42,7 +46,14 @@ same-length : tie.Need-same-length
 same-length c = search needs
 
 returns : tie.Need-returns
-returns c = recorded (lentOf (c .before .before .before .before .before .before .before .before .before .before .before .args .image .now) (c .before .before .before .before .before .before .before .before .before .before .before .args .flags)) (c .before .before .before .before .before .before .before .before .before .before .before .args .calls .now) (c .before .before .before .before .before .before .before .before .before .before .before .args .at) (c .before .before .before .before .before .before .before .before .get-u32 .ensures .0) (c .before .before .before .before .before .before .before .get-u322 .ensures .0) (c .before .before .before .before .before .before .get-u64 .ensures) (c .before .before .before .before .before .get-u642 .ensures) (c .before .before .before .«record» .ensures)
+returns c =
+    let done = c .before .before .before in
+    let stamp = done .before .before in
+    let value = stamp .before in
+    let column = value .before in
+    let a = start stamp .args in
+    recorded (lentOf (a .image .now) (a .flags)) (a .calls .now) (a .at) (column .before .get-u32 .ensures .0) (column .get-u322 .ensures .0) (value .get-u64 .ensures)
+    (stamp .get-u642 .ensures) (done .«record» .ensures)
 
 pub carry-record-spec : {M : Type 1} → statement M
 carry-record-spec =

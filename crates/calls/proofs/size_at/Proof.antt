@@ -7,6 +7,10 @@ use borrow.Author.Needs.{needs}
 use Rattle.calls.proofs.size_at.Statement.{statement}
 use Rattle.calls.proofs.size_at.Tie as tie
 
+-- the kind is read
+abbrev start : tie.After-get-u32 → tie.Start
+start k = k .before .before
+
 get-u32-requires : tie.Need-get-u32-requires
 get-u32-requires c κs = search needs
 
@@ -24,10 +28,16 @@ add-result c = search needs
 
 returns : tie.Need-returns
 unfolding batchSize
-returns c = omega (arith, c .get-u322 .ensures .0, size-batch (c .before .before .before .before .args .calls .now) (c .before .before .before .before .args .at) (sym (c .before .before .get-u32 .ensures .0) ∙ c .before .if1 .taken))
+returns c =
+    let k = c .before .before in
+    let a = start k .args in
+    omega (arith, c .get-u322 .ensures .0, size-batch (a .calls .now) (a .at) (sym (k .get-u32 .ensures .0) ∙ c .before .if1 .taken))
 
 returns-2 : tie.Need-returns-2
-returns-2 c = sym (size-other (c .before .before .before .args .calls .now) (c .before .before .before .args .at) (λ z. c .if1 .left (c .before .get-u32 .ensures .0 ∙ z)))
+returns-2 c =
+    let k = c .before in
+    let a = start k .args in
+    sym (size-other (a .calls .now) (a .at) (λ z. c .if1 .left (k .get-u32 .ensures .0 ∙ z)))
 
 pub size-at-spec : {M : Type 1} → statement M
 size-at-spec =
