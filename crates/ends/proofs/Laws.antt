@@ -59,3 +59,8 @@ stamps-later s n i k (suc j) e fits more =
 pub stamp-none : (s : List ℕ) (n i k : ℕ) → k ≡ 0 → 0 ≡ firstStamp s (walk n i k)
 unfolding firstStamp walk
 stamp-none s n i k h = rw h
+
+-- both loops' invariant: from slot i on, with k left, the first stamp is that of the walk from slot i₀ on, with k₀ left
+pub record Same (s : List ℕ) (n i₀ k₀ i k : ℕ) : Type 0 where
+  pub in-slots : i < n
+  pub first : firstStamp s (walk n i k) ≡ firstStamp s (walk n i₀ k₀)

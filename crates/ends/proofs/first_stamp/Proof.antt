@@ -1,30 +1,37 @@
 -- `ends::first_stamp` meets its contract. The loop's invariant: the first stamp from here on is the first stamp from the place on. Assumes nothing.
-use Prim.Native.Nat.{_<_}
 use native.Mathlib.Omega.{arith}
-use mathlib.Core.Path.{_≡_, refl, sym, _∙_}
-use Rattle.model.specs.Ring.{walk, firstStamp}
-use Rattle.ends.proofs.Laws.{stamp-there, stamp-later, stamp-none}
+use mathlib.Core.Path.{refl, sym, _∙_}
+use Rattle.ends.proofs.Laws.{Same, stamp-there, stamp-later, stamp-none}
 use borrow.Author.Needs.{needs}
 use Rattle.ends.proofs.first_stamp.Statement.{statement}
 use Rattle.ends.proofs.first_stamp.Tie as tie
 
 abbrev Inv-loop : tie.InvT-loop
-Inv-loop slab n m slot₀ left₀ slot left = (slot < n) × (firstStamp slab (walk n slot left) ≡ firstStamp slab (walk n slot₀ left₀))
+Inv-loop slab n m slot₀ left₀ slot left = Same slab n slot₀ left₀ slot left
 
 abbrev μ-loop : tie.MeasureT-loop
 μ-loop slab n m slot₀ left₀ slot left = left
 
+abbrev start : tie.At-loop Inv-loop μ-loop → tie.Start Inv-loop μ-loop
+start l = l .before .before
+
+-- the slot's stamp is read
+abbrev head : tie.After-stamp-of Inv-loop μ-loop → tie.At-loop Inv-loop μ-loop
+head k = k .before .before
+
 loop-holds : tie.Need-loop-holds Inv-loop μ-loop
-loop-holds c = (search needs, refl)
+loop-holds c = record { in-slots = search needs; first = refl }
 
 stamp-of-requires : tie.Need-stamp-of-requires Inv-loop μ-loop
 stamp-of-requires c κs = search needs
 
 returns : tie.Need-returns Inv-loop μ-loop
 returns c =
-    let a = c .before .before .before .before .before .args in
-    let l = c .before .before .before .loop in
-    c .before .stamp-of .ensures ∙ stamp-there (a .slab .now) (a .n) (l .slot) (l .left) (c .before .before .loop-test .taken) (λ e. c .if1 .taken (c .before .stamp-of .ensures ∙ e)) ∙ l .inv .1
+    let k = c .before in
+    let a = start (head k) .args in
+    let l = head k .loop in
+    let t = k .stamp-of .ensures in
+    t ∙ stamp-there (a .slab .now) (a .n) (l .slot) (l .left) (k .before .loop-test .taken) (λ e. c .if1 .taken (t ∙ e)) ∙ l .inv .first
 
 next-slot-requires : tie.Need-next-slot-requires Inv-loop μ-loop
 next-slot-requires c κs = search needs
@@ -37,15 +44,18 @@ loop-less c = search needs
 
 loop-again : tie.Need-loop-again Inv-loop μ-loop
 loop-again c =
-    let a = c .before .before .before .before .before .before .args in
-    let l = c .before .before .before .before .loop in
-    (c .next-slot .ensures .1, rw (c .next-slot .ensures .0) (sym (stamp-later (a .slab .now) (a .n) (l .slot) (l .left) (c .before .before .before .loop-test .taken) (sym (c .before .before .stamp-of .ensures) ∙ c .before .if1 .left)) ∙ l .inv .1))
+    let k = c .before .before in
+    let a = start (head k) .args in
+    let l = head k .loop in
+    let zero = sym (k .stamp-of .ensures) ∙ c .before .if1 .left in
+    let later = stamp-later (a .slab .now) (a .n) (l .slot) (l .left) (k .before .loop-test .taken) zero in
+    record { in-slots = c .next-slot .ensures .1; first = rw (c .next-slot .ensures .0) (sym later ∙ l .inv .first) }
 
 returns-2 : tie.Need-returns-2 Inv-loop μ-loop
 returns-2 c =
-    let a = c .before .before .before .args in
+    let a = start (c .before) .args in
     let l = c .before .loop in
-    stamp-none (a .slab .now) (a .n) (l .slot) (l .left) (omega arith) ∙ l .inv .1
+    stamp-none (a .slab .now) (a .n) (l .slot) (l .left) (omega arith) ∙ l .inv .first
 
 pub first-stamp-spec : {M : Type 1} → statement M
 first-stamp-spec =
