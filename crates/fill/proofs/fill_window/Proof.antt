@@ -2,13 +2,13 @@
 use Prim.Native.Nat.{ℕ, _+_, _-_, _≤_}
 use native.Mathlib.Nat.{sub-zero}
 use native.Mathlib.Omega.{arith}
-use mathlib.Core.Path.{_≡_, sym, ap, _∙_}
+use mathlib.Core.Path.{_≡_, ap, _∙_}
 use mathlib.Core.List.{List}
 use Rattle.model.specs.declared.Outcome.the-variants.{Accepted}
 use Rattle.model.specs.Words.{outcomeNo}
 use Rattle.model.specs.Window.{Job, windowAnswer}
 use Rattle.model.specs.Consolidate.{Filled, writeAnswer, fillWindow}
-use Rattle.rows.specs.First.{refusal-no}
+use Rattle.rows.specs.First.{not-accepted}
 use Rattle.answers.specs.declared.Filling.{Filling}
 use Rattle.fill.specs.declared.Pair.{Pair}
 use Rattle.fill.specs.Parts.{Keeps, jobOf, filledIn}
@@ -105,7 +105,7 @@ returns c =
     let a = start l .args in
     let last = column-last (jobOf (a .image .now) (a .p)) (a .window) (so-far w) (a .p .reading .series) (l .loop .column) (w .before .before .loop-test .taken)
     (ap outcomeNo (l .loop .inv .fine)) (fills w) (l .loop .inv .left)
-    (λ z. refusal-no (c .enum-told2 .given .0 .0) (sym (ap outcomeNo (c .enum-told2 .given .1)) ∙ z)) in
+    (not-accepted (c .enum-told2 .given .1)) in
     (last, (kept w, omega (arith, w .fill-column .ensures .1 .1, l .loop .inv .few)))
 
 add-column : tie.Need-add-column Inv-loop μ-loop
