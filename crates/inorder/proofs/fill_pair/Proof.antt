@@ -1,14 +1,13 @@
 -- `inorder::fill_pair` meets its contract: strand by strand, the windows of the rest of the range are left. Assumes nothing.
 use Prim.Native.Nat.{ℕ, _+_, _*_, _-_, _≤_, _<_}
 use native.Mathlib.Omega.{arith}
-use mathlib.Core.Path.{_≡_, refl, sym, ap, _∙_}
+use mathlib.Core.Path.{_≡_, refl, _∙_}
 use mathlib.Core.Logic.{inl}
 use mathlib.Core.List.{List}
 use Rattle.model.specs.declared.Outcome.the-variants.{Accepted}
-use Rattle.model.specs.Words.{outcomeNo}
 use Rattle.model.specs.Bytes.{part}
 use Rattle.model.specs.Consolidate.{Filled, fill, windows}
-use Rattle.rows.specs.First.{refusal-no}
+use Rattle.rows.specs.First.{not-accepted}
 use Rattle.strand_theory.specs.Cuts.{none}
 use Rattle.search.specs.Cut.{onward}
 use Rattle.span.specs.Strand.{Stranded}
@@ -202,7 +201,7 @@ returns c =
     let q = onward (jobOf (a .image .now) (a .p)) (end w) in
     let last = part-last (a .image .now) (l .loop .image) (a .p) (l .loop .start) (start l .pre .0) (l .loop .inv .keeps) (whole l) (stranded (strand w))
     (l .loop .done) (l .loop .inv .left) (image w) (w .fill-runs .result) (fills w)
-    (λ z. refusal-no (c .enum-told2 .given .0 .0) (sym (ap outcomeNo (c .enum-told2 .given .1)) ∙ z)) in
+    (not-accepted (c .enum-told2 .given .1)) in
     let few = writes-few (a .image .now) (a .p) (start l .pre .0) q (windows q) (a .p .reading .series) (filledIn (image w) (a .p) (w .fill-runs .result))
     (filledIn (a .image .now) (a .p) (a .filling)) (leaves w) in
     (last, ((kept w, few), passes (counts (strand w))))

@@ -2,16 +2,15 @@
 use Prim.Native.Nat.{ℕ, _+_, _*_, _≤_, _<_}
 use native.Mathlib.Nat.{mul-le-mul-left}
 use native.Mathlib.Omega.{arith}
-use mathlib.Core.Path.{_≡_, sym, ap, _∙_, subst}
+use mathlib.Core.Path.{_≡_, ap, _∙_, subst}
 use mathlib.Core.List.{List}
 use Rattle.model.specs.declared.Outcome.the-variants.{Accepted}
 use Rattle.model.specs.declared.Place.{Place}
-use Rattle.model.specs.Words.{outcomeNo}
 use Rattle.model.specs.Bytes.{part}
 use Rattle.model.specs.Ring.{walk}
 use Rattle.model.specs.Window.{Job}
 use Rattle.model.specs.Consolidate.{fillWindow}
-use Rattle.rows.specs.First.{refusal-no}
+use Rattle.rows.specs.First.{not-accepted}
 use Rattle.window.specs.Parts.{jobIn}
 use Rattle.span.specs.Parts.{Ran}
 use Rattle.span.specs.Rest.{Rest}
@@ -153,7 +152,7 @@ returns c =
     let a = start l .args in
     let i = l .loop .inv in
     let last = run-last (source l) (a .p .reading) (start l .pre .0 .0 .readable) (some-left r) (i .rest) (ran r) (fills w)
-    (λ z. refusal-no (c .enum-told2 .given .0 .0) (sym (ap outcomeNo (c .enum-told2 .given .1)) ∙ z)) in
+    (not-accepted (c .enum-told2 .given .1)) in
     (last, (kept w, omega (arith, w .fill-window .ensures .1 .1, i .few, fewer-left (a .p .reading .series) 0 (l .loop .left) (some-left r))))
 
 loop-less : tie.Need-loop-less Inv-loop μ-loop
