@@ -1,9 +1,7 @@
 -- `pair::move_mark` meets its contract, one case a return. Assumes nothing.
 use native.Mathlib.Omega.{arith}
-use mathlib.Core.Path.{sym, ap, _∙_}
-use Rattle.model.specs.Words.{outcomeNo}
 use Rattle.model.specs.Image.{rowPlace}
-use Rattle.rows.specs.First.{refusal-no}
+use Rattle.rows.specs.First.{not-accepted}
 use Rattle.pair.proofs.Laws.{mark-refused, mark-unmoved, mark-moved}
 use borrow.Author.Needs.{needs}
 use Rattle.pair.proofs.move_mark.Statement.{statement}
@@ -25,7 +23,7 @@ enum-told-2 c = search needs
 returns : tie.Need-returns
 returns c =
     let a = c .before .before .before .args in
-    mark-refused (a .image .now) (a .row) (a .stamp) (a .writes) (a .outcome) (λ z. refusal-no (c .enum-told2 .given .0 .0) (sym (ap outcomeNo (c .enum-told2 .given .1)) ∙ z))
+    mark-refused (a .image .now) (a .row) (a .stamp) (a .writes) (a .outcome) (not-accepted (c .enum-told2 .given .1))
 
 returns-2 : tie.Need-returns-2
 returns-2 c = let a = start (c .before) .args in mark-unmoved (a .image .now) (a .row) (a .stamp) (a .writes) (a .outcome) (c .if1 .taken)
