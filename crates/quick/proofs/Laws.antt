@@ -1,16 +1,17 @@
 -- What the quick pass works out: a slab's length, slots by a product, schema and tier by words. Assumes nothing.
-use Prim.Native.Nat.{ℕ, suc, _+_, _*_, _/_, _%_, _^_, _≤_, _<_}
+use Prim.Native.Nat.{ℕ, suc, _+_, _*_, _%_, _^_, _≤_, _<_}
 use native.Mathlib.Nat.{mul-add, mul-suc, mul-assoc, mul-comm, mul-le-mul-right, mod-eq-of-lt}
 use native.Mathlib.Omega.{arith}
 use mathlib.Core.Path.{_≡_, refl, sym, ap, _∙_}
 use mathlib.Core.Logic.{_≢_, _⊎_, inl, inr}
 use mathlib.Core.List.{List}
+use lib.Bits.{bitOr, or-add-and, and-le-l, and-le-r}
 use Rattle.model.specs.declared.Row.{Row}
 use Rattle.model.specs.Bytes.{get}
 use Rattle.model.specs.Image.{schemas, rowPlace, rowAt}
 use Rattle.quick.specs.declared.Shared.{Shared}
 use Rattle.quick.specs.Pass.{Start}
-use Rattle.quick.specs.Seen.{PairAt, Known, Begun, Followed, Joined, Early, Only, NextTier, Ends, Slotted, Timed, Slab, Here}
+use Rattle.quick.specs.Seen.{PairAt, Known, Begun, Followed, Joined, Early, Only, NextTier, Ends, Low, Slotted, Timed, Slab, Here}
 use Rattle.model.specs.Layout.{slabLength, columnAt, columnBehind, stampsBehind, directory}
 
 pub length-is : (n m : ℕ) → n * (8 * m + 8) + (4 * m + 64) ≡ slabLength n m
@@ -18,12 +19,15 @@ unfolding slabLength columnAt columnBehind stampsBehind directory
 length-is n m = omega (arith, mul-add n (8 * m) 8, mul-assoc n 8 m, mul-assoc 8 n m, mul-comm n 8, mul-suc n m)
 
 -- a product that cannot wrap
-pub product-low : (n d : ℕ) → 0 < n → n < 134_217_728 → (d / 4_294_967_296) * n < 1_006_632_960 → n * d + d < 2 ^ 63
-product-low n d some few h =
-    let q = d / 4_294_967_296 in
+pub product-low : (n q : ℕ) → 0 < n → n < 134_217_728 → q * n < 1_006_632_960 → Low n q
+product-low n q some few h d l =
     let up : d ≤ q * 4_294_967_296 + 4_294_967_295 = omega arith in
     let one : 1 ≤ n = omega arith in
     omega (arith, mul-le-mul-right n up, mul-le-mul-right q one)
+
+-- two numbers joined by `|` that give 0
+pub or-zero : (a b : ℕ) → bitOr a b ≡ 0 → (a ≡ 0) × (b ≡ 0)
+or-zero a b z = (omega (arith, or-add-and a b, and-le-r a b, z), omega (arith, or-add-and a b, and-le-l a b, z))
 
 -- ---- words of rows
 

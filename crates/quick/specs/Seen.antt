@@ -25,13 +25,12 @@ use Rattle.quick.specs.Pass.{RowGood, Joins, Start, Pass, opens}
 abbrev pub PairAt : List ℕ → ℕ → ℕ → Type 0
 PairAt s o w = (w ≡ get 4 s o + 4_294_967_296 * get 4 s (o + 4)) × (get 4 s o < 4_294_967_296)
 
+-- the header, but for the number of its rows
 pub record Head (s : List ℕ) : Type 0 where
   pub long : 96 ≤ length s
   pub magic-is : get 4 s 0 ≡ 0x4f545352
   pub version-is : get 4 s 4 ≡ 1
   pub zero-is : get 8 s 24 ≡ 0
-  pub some-rows : 0 < rowCount s
-  pub few-rows : rowCount s ≤ 32
   pub head-low : 96 + 64 * rowCount s ≤ totalLength s
   pub total-low : totalLength s ≤ 2 ^ 40
   pub fits : totalLength s ≤ length s
@@ -97,6 +96,10 @@ pub record Ends (s : List ℕ) (i : ℕ) : Type 0 where
   pub last-is : schemas s ≡ rowAt s i .schema + 1
 
 -- ---- slabs
+
+-- n slots of an interval with this upper half, and one more, hold less than 2^63 ns
+abbrev pub Low : ℕ → ℕ → Type 0
+Low n high = (d : ℕ) → d < 4_294_967_296 * high + 4_294_967_296 → n * d + d < 2 ^ 63
 
 -- n slots of interval d are what retention r has, and all are far below 2^63
 pub record Slotted (n d r : ℕ) : Type 0 where
@@ -267,6 +270,10 @@ module _ (s : List ℕ) (i at : ℕ) (p : Placed s i at) (h : Here s i at) where
 
 -- ---- all parts
 
+-- a number of rows that an image can have
+abbrev pub Counted : ℕ → Type 0
+Counted n = (0 < n) × (n ≤ 32)
+
 pub record All (s : List ℕ) (n e : ℕ) : Type 0 where
   pub joined : JoinedUpTo s n
   pub few-schemas : schemas s ≤ 8
@@ -276,15 +283,15 @@ pub record All (s : List ℕ) (n e : ℕ) : Type 0 where
 pub all-are : (s : List ℕ) (n i e : ℕ) → Start 0 (rowAt s 0) → JoinsTo s i → i + 1 ≡ n → Ends s i → Placed s (i + 1) e → All s n e
 all-are s n i e st j k l p = record { joined = joined-all s n i st j k (l .last-is); few-schemas = l .few-schemas; placed = rw k at p }
 
-pub all-good : (s : List ℕ) (n : ℕ) → Head s → n ≡ rowCount s → All s n (totalLength s) → openCheck s ≡ 0
-all-good s zero h c a = absurd (omega (arith, h .some-rows))
-all-good s (suc n) h c a = opens s n (record {
+pub all-good : (s : List ℕ) (n : ℕ) → Head s → Counted n → n ≡ rowCount s → All s n (totalLength s) → openCheck s ≡ 0
+all-good s zero h k c a = absurd (omega (arith, k .0))
+all-good s (suc n) h k c a = opens s n (record {
   long = omega (arith, h .long);
   magic-is = h .magic-is;
   version-is = h .version-is;
   few-schemas = a .few-schemas;
   count-is = sym c;
-  few-rows = h .few-rows;
+  few-rows = omega (arith, c, k .1);
   zero-is = h .zero-is;
   head-fits = unfold rowPlace in (omega (arith, h .head-low, h .fits));
   starts = a .joined .starts;

@@ -24,10 +24,10 @@ record Inv (s : List ℕ) (n : ℕ) (p : Shared) (at i : ℕ) : Type 0 where
   placed : Placed s (i + 1) at
 
 abbrev Inv-loop : tie.InvT-loop
-Inv-loop s n total p₀ at₀ i₀ p at i = Inv s n p at i
+Inv-loop s n total top p₀ at₀ i₀ p at i = Inv s n p at i
 
 abbrev μ-loop : tie.MeasureT-loop
-μ-loop s n total p₀ at₀ i₀ p at i = 3 - i
+μ-loop s n total top p₀ at₀ i₀ p at i = 3 - i
 
 abbrev start : tie.At-loop Inv-loop μ-loop → tie.Start Inv-loop μ-loop
 start c = c .before .before .before
@@ -53,6 +53,9 @@ done c last e =
     let a = start c in
     subst (All (image c) (a .args .n)) e
     (all-are (image c) (a .args .n) (l .i) (l .at) (a .pre .1 .0 .begun .start) (l .inv .joins) (omega (arith, last)) (only-ends (image c) (l .i) (l .inv .only) (a .pre .1 .1)) (l .inv .placed))
+
+sub-top : tie.Need-sub-top Inv-loop μ-loop
+sub-top c = omega arith
 
 mul-at : tie.Need-mul-at Inv-loop μ-loop
 mul-at c = omega arith
@@ -86,9 +89,6 @@ add-if1 c = omega (arith, c .before .loop .inv .in-rows)
 
 returns : tie.Need-returns Inv-loop μ-loop
 returns c = let d = c .before .before in λ e. done d (c .if1 .taken) (eq-is (d .loop .at) (start d .args .total) e)
-
-add-if2 : tie.Need-add-if2 Inv-loop μ-loop
-add-if2 c = omega (arith, c .before .before .loop .inv .low)
 
 returns-2 : tie.Need-returns-2 Inv-loop μ-loop
 returns-2 c = λ e. absurd (false≢true e)
@@ -163,6 +163,7 @@ few-good-spec =
     (tie.spec
     Inv-loop
     μ-loop
+    sub-top
     mul-at
     add-at
     get-u64-requires
@@ -170,7 +171,6 @@ few-good-spec =
     loop-holds
     add-if1
     returns
-    add-if2
     returns-2
     next-tier-requires
     enum-known-next

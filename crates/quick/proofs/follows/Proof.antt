@@ -1,11 +1,18 @@
 -- `quick::follows` meets its contract: series and function by one word. Assumes nothing.
-use mathlib.Core.Bool.{false≢true}
-use native.Mathlib.Omega.{arith}
-use mathlib.Core.Path.{_≡_, refl, sym, _∙_}
 use Rattle.quick.proofs.Laws.{followed-is}
 use borrow.Author.Needs.{needs}
 use Rattle.quick.proofs.follows.Statement.{statement}
 use Rattle.quick.proofs.follows.Tie as tie
+
+-- the interval is longer; back to where the hash was the same, to where the series were, to the start
+abbrev hashed : tie.Else3 → tie.Else2
+hashed c = c .before .before .before
+
+abbrev shared : tie.Else2 → tie.Else1
+shared c = c .before .before .before
+
+abbrev start : tie.Else2 → tie.Start
+start c = shared c .before .before .before .before
 
 mul-at : tie.Need-mul-at
 mul-at c = search needs
@@ -50,7 +57,12 @@ returns-3 : tie.Need-returns-3
 returns-3 c = tt
 
 returns-4 : tie.Need-returns-4
-returns-4 c = followed-is (c .before .before .before .before .before .before .before .before .before .before .args .s .now) (c .before .before .before .before .before .before .before .before .before .before .args .i) (c .before .before .before .before .before .before .before .before .before .before .args .p) (c .before .before .before .before .before .before .before .before .before .before .pre .1) (c .before .before .before .before .before .before .before .before .pair .ensures) (c .before .before .before .before .before .before .before .wrapping-sub-u64 .ensures) (c .before .before .before .before .before .before .if1 .left) (c .before .before .before .before .before .get-u64 .ensures) (c .before .before .before .if2 .left) (c .before .before .get-u642 .ensures) (c .before .get-u643 .ensures) (c .if3 .left)
+returns-4 c =
+    let h = hashed c in
+    let f = shared h in
+    let a = start h in
+    followed-is (a .args .s .now) (a .args .i) (a .args .p) (a .pre .1) (f .before .before .pair .ensures) (f .before .wrapping-sub-u64 .ensures) (f .if1 .left)
+    (h .before .before .get-u64 .ensures) (h .if2 .left) (c .before .before .get-u642 .ensures) (c .before .get-u643 .ensures) (c .if3 .left)
 
 pub follows-spec : {M : Type 1} → statement M
 follows-spec =

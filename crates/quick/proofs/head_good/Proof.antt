@@ -3,11 +3,16 @@ use mathlib.Core.Bool.{false≢true}
 use native.Mathlib.Omega.{arith}
 use Rattle.laws.specs.Tests.{le-is}
 use Rattle.model.specs.Image.{rowCount, totalLength}
-use mathlib.Core.Path.{_≡_, refl, sym, _∙_}
-use Prim.Native.Nat.{_+_, _*_}
+use mathlib.Core.Path.{_≡_, sym, _∙_}
+use Prim.Native.Nat.{_+_, _*_, _/_}
+use Rattle.quick.proofs.Laws.{or-zero}
 use borrow.Author.Needs.{needs}
 use Rattle.quick.proofs.head_good.Statement.{statement}
 use Rattle.quick.proofs.head_good.Tie as tie
+
+-- the image is as long as it says; back to where its name was read
+abbrev named : tie.Else3 → tie.After-pair
+named c = c .before .before .before
 
 returns : tie.Need-returns
 returns c = λ e. absurd (false≢true e)
@@ -18,29 +23,20 @@ pair-requires c κs = search needs
 returns-2 : tie.Need-returns-2
 returns-2 c = λ e. absurd (false≢true e)
 
-get-u32-requires : tie.Need-get-u32-requires
-get-u32-requires c κs = search needs
+get-u64-requires : tie.Need-get-u64-requires
+get-u64-requires c κs = search needs
 
 returns-3 : tie.Need-returns-3
 returns-3 c = λ e. absurd (false≢true e)
 
-returns-4 : tie.Need-returns-4
-returns-4 c = λ e. absurd (false≢true e)
-
-get-u64-requires : tie.Need-get-u64-requires
-get-u64-requires c κs = search needs
-
-returns-5 : tie.Need-returns-5
-returns-5 c = λ e. absurd (false≢true e)
-
 get-u64-requires-2 : tie.Need-get-u64-requires-2
 get-u64-requires-2 c κs = search needs
 
-returns-6 : tie.Need-returns-6
-returns-6 c = λ e. absurd (false≢true e)
+returns-4 : tie.Need-returns-4
+returns-4 c = λ e. absurd (false≢true e)
 
-returns-7 : tie.Need-returns-7
-returns-7 c = λ e. absurd (false≢true e)
+get-u32-requires : tie.Need-get-u32-requires
+get-u32-requires c κs = search needs
 
 mul-result : tie.Need-mul-result
 mul-result c = search needs
@@ -48,19 +44,22 @@ mul-result c = search needs
 add-result : tie.Need-add-result
 add-result c = search needs
 
-returns-8 : tie.Need-returns-8
+returns-5 : tie.Need-returns-5
 unfolding rowCount totalLength
-returns-8 c =
+returns-5 c =
+    let sized = c .before .before .before in
+    let name = named sized .pair .ensures in
+    let is = sized .before .before .if2 .left in
+    let total = sized .before .get-u64 .ensures in
+    let zeros = or-zero (sized .before .get-u64 .result / 1_099_511_627_776) (c .before .before .get-u642 .result) (c .before .if4 .left) in
     λ e. record {
-      long = c .before .before .before .before .before .before .before .before .before .before .if1 .left;
-      magic-is = omega (arith, c .before .before .before .before .before .before .before .before .before .pair .ensures .0, c .before .before .before .before .before .before .before .before .before .pair .ensures .1, c .before .before .before .before .before .before .before .before .if2 .left);
-      version-is = omega (arith, c .before .before .before .before .before .before .before .before .before .pair .ensures .0, c .before .before .before .before .before .before .before .before .before .pair .ensures .1, c .before .before .before .before .before .before .before .before .if2 .left);
-      zero-is = sym (c .before .before .get-u642 .ensures) ∙ c .before .if6 .left;
-      some-rows = omega (arith, c .before .before .before .before .before .before .before .get-u32 .ensures .0, c .before .before .before .before .before .before .if3 .left);
-      few-rows = omega (arith, c .before .before .before .before .before .before .before .get-u32 .ensures .0, c .before .before .before .before .before .if4 .left);
-      head-low = omega (arith, c .before .before .before .before .before .before .before .get-u32 .ensures .0, c .before .before .before .before .get-u64 .ensures, le-is (96 + 64 * c .before .before .before .before .before .before .before .get-u32 .result) (c .before .before .before .before .get-u64 .result) e);
-      total-low = omega (arith, c .before .before .before .before .get-u64 .ensures, c .if7 .left);
-      fits = omega (arith, c .before .before .before .before .get-u64 .ensures, c .before .before .before .if5 .left);
+      long = named sized .before .if1 .left;
+      magic-is = omega (arith, name .0, name .1, is);
+      version-is = omega (arith, name .0, name .1, is);
+      zero-is = sym (c .before .before .get-u642 .ensures) ∙ zeros .1;
+      head-low = omega (arith, c .get-u32 .ensures .0, total, le-is (96 + 64 * c .get-u32 .result) (sized .before .get-u64 .result) e);
+      total-low = omega (arith, total, zeros .0);
+      fits = omega (arith, total, sized .if3 .left);
     }
 
 pub head-good-spec : {M : Type 1} → statement M
@@ -70,14 +69,11 @@ head-good-spec =
     returns
     pair-requires
     returns-2
-    get-u32-requires
-    returns-3
-    returns-4
     get-u64-requires
-    returns-5
+    returns-3
     get-u64-requires-2
-    returns-6
-    returns-7
+    returns-4
+    get-u32-requires
     mul-result
     add-result
-    returns-8)
+    returns-5)

@@ -7,6 +7,10 @@ use borrow.Author.Needs.{needs}
 use Rattle.quick.proofs.joins.Statement.{statement}
 use Rattle.quick.proofs.joins.Tie as tie
 
+-- both rows' words are read; back to the start
+abbrev start : tie.After-pair2 → tie.Start
+start c = c .before .before .before
+
 mul-at : tie.Need-mul-at
 mul-at c = search needs
 
@@ -23,16 +27,17 @@ pair-requires-2 : tie.Need-pair-requires-2
 pair-requires-2 c κs = search needs
 
 add-if1 : tie.Need-add-if1
-add-if1 c = omega (arith, c .before .pair .ensures .0, schema-low (c .before .before .before .pre .2), tier-low (c .before .before .before .pre .2), c .before .before .before .pre .1)
+add-if1 c = let p = start c .pre in omega (arith, c .before .pair .ensures .0, schema-low (p .2), tier-low (p .2), p .1)
 
 follows-requires : tie.Need-follows-requires
-follows-requires c κs = (c .before .before .before .before .pre .0, c .before .before .before .before .pre .3)
+follows-requires c κs = let p = start (c .before) .pre in (p .0, p .3)
 
 returns : tie.Need-returns
 returns c =
-    let s = c .before .before .before .before .before .args .s .now in
-    let i = c .before .before .before .before .before .args .i in
-    good-map (Followed s i) (Joined s i) (λ q. next-tier s i (c .before .before .before .pair .ensures) (c .before .before .pair2 .ensures) (c .before .if1 .taken)) (c .follows .result) (c .follows .ensures)
+    let d = c .before .before in
+    let s = start d .args .s .now in
+    let i = start d .args .i in
+    good-map (Followed s i) (Joined s i) (λ q. next-tier s i (d .before .pair .ensures) (d .pair2 .ensures) (c .before .if1 .taken)) (c .follows .result) (c .follows .ensures)
 
 get-u32-requires : tie.Need-get-u32-requires
 get-u32-requires c κs = search needs
@@ -44,12 +49,13 @@ add-starts : tie.Need-add-starts
 add-starts c = search needs
 
 starts-requires : tie.Need-starts-requires
-starts-requires c κs = (omega (arith, c .before .before .before .before .before .pre .0), omega (arith, c .get-u32 .ensures .0, schema-low (c .before .before .before .before .before .pre .2), c .before .before .before .before .before .pre .1))
+starts-requires c κs = let p = start (c .before .before) .pre in (omega (arith, p .0), omega (arith, c .get-u32 .ensures .0, schema-low (p .2), p .1))
 
 returns-2 : tie.Need-returns-2
 returns-2 c =
-    let s = c .before .before .before .before .before .before .args .s .now in
-    let i = c .before .before .before .before .before .before .args .i in
+    let a = start (c .before .before .before) .args in
+    let s = a .s .now in
+    let i = a .i in
     good-map (Begun s (i + 1) (c .before .get-u32 .result + 1)) (Joined s i) (λ q. next-start s i (c .before .get-u32 .ensures .0)) (c .starts .result) (c .starts .ensures)
 
 pub joins-spec : {M : Type 1} → statement M

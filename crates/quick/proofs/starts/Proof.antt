@@ -1,12 +1,16 @@
 -- `quick::starts` meets its contract: the tests that were passed are the facts. Assumes nothing.
-use mathlib.Core.Bool.{false≢true}
-use native.Mathlib.Omega.{arith}
-use mathlib.Core.Path.{_≡_, refl, sym, _∙_}
-use mathlib.Core.Logic.{_≢_}
+use mathlib.Core.Path.{refl}
 use Rattle.quick.proofs.Laws.{start-is, known-start}
 use borrow.Author.Needs.{needs}
 use Rattle.quick.proofs.starts.Statement.{statement}
 use Rattle.quick.proofs.starts.Tie as tie
+
+-- a first row has series; back to where its schema was the right one, to the start
+abbrev named : tie.Else3 → tie.Else1
+named c = c .before .before .before .before
+
+abbrev start : tie.Else3 → tie.Start
+start c = named c .before .before .before
 
 mul-at : tie.Need-mul-at
 mul-at c = search needs
@@ -48,7 +52,13 @@ mul-t11 : tie.Need-mul-t11
 mul-t11 c = search needs
 
 returns-4 : tie.Need-returns-4
-returns-4 c = known-start (c .before .before .before .before .before .before .before .before .args .s .now) (c .before .before .before .before .before .before .before .before .args .i) (c .before .before .before .before .before .before .before .before .args .k) _ (start-is (c .before .before .before .before .before .before .before .before .args .s .now) (c .before .before .before .before .before .before .before .before .args .i) (c .before .before .before .before .before .before .before .before .args .k) (c .before .before .before .before .before .before .pair .ensures) (c .before .before .before .before .before .if1 .left) (c .before .before .before .before .before .before .before .before .pre .1) (c .before .before .before .before .get-u32 .ensures .0) (c .before .before .before .if2 .left) (c .before .before .get-u322 .ensures .0) (c .before .if3 .left)) (c .before .before .get-u322 .ensures .0) (c .before .before .get-u322 .ensures .1) refl (c .get-u64 .ensures)
+returns-4 c =
+    let d = named (c .before) in
+    let a = start (c .before) in
+    let series = c .before .before .get-u322 .ensures in
+    let first = start-is (a .args .s .now) (a .args .i) (a .args .k) (d .before .pair .ensures) (d .if1 .left) (a .pre .1)
+        (c .before .before .before .before .get-u32 .ensures .0) (c .before .before .before .if2 .left) (series .0) (c .before .if3 .left) in
+    known-start (a .args .s .now) (a .args .i) (a .args .k) _ first (series .0) (series .1) refl (c .get-u64 .ensures)
 
 pub starts-spec : {M : Type 1} → statement M
 starts-spec =
