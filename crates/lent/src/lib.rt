@@ -79,12 +79,11 @@ pub fn first_row(image: &[u8], schema: u64) -> usize
     i
 }
 
-// The row of a handle's finest tier. An image in good order has a row, so the loop asks for the count after its first turn.
+// The row of a handle's finest tier. An image in good order has a row, so the loop reads and asks the count after its first turn.
 pub fn finest_row(image: &[u8], schema: u64, column: u64) -> Finest
     requires { ⌜ openCheck (now image) ≡ 0 ⌝ }
     ensures { λ r. ⌜ r ≡ finestOf (now (image .entry)) schema column ⌝ }
 {
-    let count = field::get_u32(image, 12) as usize;
     let mut i = 0;
     loop {
         let s = row_u32(image, i, 0);
@@ -96,6 +95,7 @@ pub fn finest_row(image: &[u8], schema: u64, column: u64) -> Finest
             return Finest::At(i);
         }
         i += 1;
+        let count = field::get_u32(image, 12) as usize;
         if i == count {
             return Finest::Missing;
         }
