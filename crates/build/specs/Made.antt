@@ -166,7 +166,7 @@ module _ (p s : List ℕ) (fits : 32 ≤ length p) where
   unfolding rowsTo
   count = rw sub-zero (length-rowsFrom p 0 N)
 
-  -- the lengths of the first and of the two last parts
+  -- how long the first part is, the rows, and all
   head-long : length (take 16 p) ≡ 16
   head-long = length-take-le 16 p (omega arith)
 

@@ -1,5 +1,7 @@
 -- `slab::fresh_slab` meets its contract: header, directory, stamps and cells one behind the other are the slab. Assumes nothing.
-use Prim.Native.Nat.{_-_}
+use Prim.Native.Nat.{_+_, _*_}
+use mathlib.Core.Path.{_≡_, _∙_}
+use lib.ListN.{length}
 use native.Mathlib.Omega.{arith}
 use Rattle.layout.specs.Ends.{long}
 use Rattle.slab.specs.Fresh.{slab-made}
@@ -20,32 +22,36 @@ at-head c = c .before .before .before .before
 abbrev start : tie.After-fresh-head → tie.Start
 start c = c .before .before .before
 
+-- the slab is as long as its parts
+long-is : (c : tie.Start) → let a = c .args in length (a .slab .now) ≡ 64 + 4 * a .m + 8 * a .n + 8 * (a .n * a .m)
+long-is c = c .pre ∙ long (c .args .n) (c .args .m)
+
 mul-stamps : tie.Need-mul-stamps
-mul-stamps c = let a = c .before .args in omega (arith, long (a .n) (a .m))
+mul-stamps c = omega (arith, long-is (c .before))
 
 add-stamps : tie.Need-add-stamps
-add-stamps c = let a = c .before .args in omega (arith, long (a .n) (a .m))
+add-stamps c = omega (arith, long-is (c .before))
 
 mul-cells : tie.Need-mul-cells
-mul-cells c = let a = c .before .args in omega (arith, long (a .n) (a .m))
+mul-cells c = omega (arith, long-is (c .before))
 
 add-cells : tie.Need-add-cells
-add-cells c = let a = c .before .args in omega (arith, long (a .n) (a .m))
+add-cells c = omega (arith, long-is (c .before))
 
 mul-count : tie.Need-mul-count
-mul-count c = let a = c .before .args in omega (arith, long (a .n) (a .m))
+mul-count c = omega (arith, long-is (c .before))
 
 fresh-head-requires : tie.Need-fresh-head-requires
-fresh-head-requires c κs = let a = c .before .before .args in omega (arith, long (a .n) (a .m))
+fresh-head-requires c κs = omega (arith, long-is (c .before .before))
 
 fill-requires : tie.Need-fill-requires
-fill-requires c κs = let a = start (c .before .before .before) .args in omega (arith, long (a .n) (a .m))
+fill-requires c κs = omega (arith, long-is (start (c .before .before .before)))
 
 fill-requires-2 : tie.Need-fill-requires-2
-fill-requires-2 c κs = let a = start (at-head (c .before .before .before)) .args in omega (arith, long (a .n) (a .m))
+fill-requires-2 c κs = omega (arith, long-is (start (at-head (c .before .before .before))))
 
 fill-cells-requires : tie.Need-fill-cells-requires
-fill-cells-requires c κs = let a = start (at-head (at-directory (c .before .before .before))) .args in omega (arith, long (a .n) (a .m))
+fill-cells-requires c κs = omega (arith, long-is (start (at-head (at-directory (c .before .before .before)))))
 
 same-length : tie.Need-same-length
 same-length c = search needs
