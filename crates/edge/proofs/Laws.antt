@@ -1,8 +1,7 @@
 -- How the cores' contracts become the edge's: the flags cross as a number, a call's outcome is a step of the model's `call`; what a good plan's check says
 -- of its size. Assumes nothing.
-use Prim.Native.Nat.{ℕ, zero, suc, _≤_}
-use native.Mathlib.Omega.{arith}
-use mathlib.Core.Path.{_≡_, refl, sym, ap, _∙_}
+use Prim.Native.Nat.{ℕ, zero, suc}
+use mathlib.Core.Path.{_≡_, refl, ap, _∙_}
 use mathlib.Core.List.{List, [], _∷_}
 use Rattle.model.specs.declared.Flags.{Flags}
 use Rattle.model.specs.declared.Next.the-variants.{Handed, Finished}
@@ -36,6 +35,11 @@ lent-in s f x e = ap (λ w. record { image = s; flags = w }) e
 pub lent-out : (s : List ℕ) (f : Flags) (x : ℕ) → bits 32 x ≡ f .wrapped → lentAt s x ≡ lentOf s f
 lent-out s f x e = ap (λ w. record { image = s; flags = w }) e
 
+-- a step on what is lent, with the flags f before it and g after it
+pub crossed : {s t : List ℕ} (x y : ℕ) (step : Lent → Lent) (f g : Flags) → f .wrapped ≡ bits 32 x → bits 32 y ≡ g .wrapped → lentOf t g ≡ step (lentOf s f)
+    → lentAt t y ≡ step (lentAt s x)
+crossed {s} {t} x y step f g into out e = lent-out t g y out ∙ e ∙ ap step (lent-in s f x into)
+
 -- ---- a call's outcome
 
 pub record-call : (l a : Lent) (k c v t n : ℕ) → RecordDone l k c v t n a → doneAs n a ≡ call l (recordCall k c v t)
@@ -46,27 +50,28 @@ pub batch-call : (l a : Lent) (es : List Entry) (t n : ℕ) → BatchDone l es t
 unfolding call
 batch-call l a es t n d = rw (d .answer-is, d .lent-is)
 
-abbrev doneAfter : Consolidated → Lent → Done
+abbrev pub doneAfter : Consolidated → Lent → Done
 doneAfter a l = record { reply = consolidatedReply a; lent = l }
 
 -- ---- consolidation's outcome, a being the code's answer
 
-module _ (s t : List ℕ) (f g : Flags) (x y old : ℕ) (a : Consolidated) (into : f .wrapped ≡ bits 32 x) (out : bits 32 y ≡ g .wrapped)
-    (e : doneAfter a (lentOf t g) ≡ call (lentOf s f) consolidateCall) where
-  ran : doneAfter a (lentAt t y) ≡ call (lentAt s x) consolidateCall
-  ran = rw (lent-out t g y out, ← lent-in s f x into) e
+module _ (s t : List ℕ) (x y : ℕ) (a : Consolidated) where
+  pub ran : (f g : Flags) → f .wrapped ≡ bits 32 x → bits 32 y ≡ g .wrapped → doneAfter a (lentOf t g) ≡ call (lentOf s f) consolidateCall
+      → doneAfter a (lentAt t y) ≡ call (lentAt s x) consolidateCall
+  ran f g into out e = rw (lent-out t g y out, ← lent-in s f x into) e
 
-  pub run-wrote : (k : ℕ) → a ≡ C.Wrote k
-      → (0 ≡ replyNo (call (lentAt s x) consolidateCall .reply))
-      × ((k ≡ countOn (call (lentAt s x) consolidateCall .reply) old) × (lentAt t y ≡ call (lentAt s x) consolidateCall .lent))
-  unfolding replyNo countOn consolidatedReply
-  run-wrote k h = rw (← ran, h) (refl, (refl, refl))
+  module _ (old : ℕ) (e : doneAfter a (lentAt t y) ≡ call (lentAt s x) consolidateCall) where
+    pub run-wrote : {k : ℕ} → a ≡ C.Wrote k
+        → (0 ≡ replyNo (call (lentAt s x) consolidateCall .reply))
+        × ((k ≡ countOn (call (lentAt s x) consolidateCall .reply) old) × (lentAt t y ≡ call (lentAt s x) consolidateCall .lent))
+    unfolding replyNo countOn consolidatedReply
+    run-wrote h = rw (← e, h) (refl, (refl, refl))
 
-  pub run-refused : (r : Refusal) (m : ℕ) → a ≡ C.Refused r → m ≡ numberOf r
-      → (m ≡ replyNo (call (lentAt s x) consolidateCall .reply))
-      × ((old ≡ countOn (call (lentAt s x) consolidateCall .reply) old) × (lentAt t y ≡ call (lentAt s x) consolidateCall .lent))
-  unfolding replyNo countOn consolidatedReply
-  run-refused r m h i = rw (← ran, h) (i, (refl, refl))
+    pub run-refused : {r : Refusal} {m : ℕ} → a ≡ C.Refused r → m ≡ numberOf r
+        → (m ≡ replyNo (call (lentAt s x) consolidateCall .reply))
+        × ((old ≡ countOn (call (lentAt s x) consolidateCall .reply) old) × (lentAt t y ≡ call (lentAt s x) consolidateCall .lent))
+    unfolding replyNo countOn consolidatedReply
+    run-refused h i = rw (← e, h) (i, (refl, refl))
 
 -- ---- a number that a refusal leaves
 
@@ -116,11 +121,11 @@ query-refused q r m old e h = rw e (h, refl)
 -- ---- a step of the reader
 
 pub step-handed : (r d : Stepped) (p : Point) (old : List ℕ) → r ≡ d → r .next ≡ Handed p
-    → (1 ≡ nextNo (d .next)) × (placeWords (r .place) ≡ placeWords (d .place)) × (p .stamp ∷ p .value ∷ [] ≡ pointWords (d .next) old)
+    → (1 ≡ nextNo (d .next)) × ((placeWords (r .place) ≡ placeWords (d .place)) × (p .stamp ∷ p .value ∷ [] ≡ pointWords (d .next) old))
 unfolding nextNo pointWords
-step-handed r d p old e h = rw (← e, h) (refl, refl, refl)
+step-handed r d p old e h = rw (← e, h) (refl, (refl, refl))
 
 pub step-finished : (r d : Stepped) (old : List ℕ) → r ≡ d → r .next ≡ Finished
-    → (0 ≡ nextNo (d .next)) × (placeWords (r .place) ≡ placeWords (d .place)) × (old ≡ pointWords (d .next) old)
+    → (0 ≡ nextNo (d .next)) × ((placeWords (r .place) ≡ placeWords (d .place)) × (old ≡ pointWords (d .next) old))
 unfolding nextNo pointWords
-step-finished r d old e h = rw (← e, h) (refl, refl, refl)
+step-finished r d old e h = rw (← e, h) (refl, (refl, refl))

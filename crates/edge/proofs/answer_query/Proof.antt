@@ -17,10 +17,10 @@ refusal-number-requires : tie.Need-refusal-number-requires
 refusal-number-requires c κs = search needs
 
 returns : tie.Need-returns
-returns c = answer-stored _ _ _ (c .before .before .before .before .args .answer .now) (c .before .before .reply .given .1) (c .found-words .ensures)
+returns c = answer-stored _ _ _ _ (c .before .before .reply .given .1) (c .found-words .ensures)
 
 returns-2 : tie.Need-returns-2
-returns-2 c = query-refused _ _ _ (c .before .before .before .before .args .answer .now) (c .before .before .reply2 .given .1) (c .refusal-number .ensures)
+returns-2 c = query-refused _ _ _ _ (c .before .before .reply2 .given .1) (c .refusal-number .ensures)
 
 pub answer-query-spec : {M : Type 1} → statement M
 answer-query-spec =

@@ -4,6 +4,12 @@ use borrow.Author.Needs.{needs}
 use Rattle.edge.proofs.found_words.Statement.{statement}
 use Rattle.edge.proofs.found_words.Tie as tie
 
+abbrev told : tie.After-struct-known2 → tie.After-bool-number
+told c = c .before .before .before
+
+abbrev start : tie.After-bool-number → tie.Start
+start c = c .before .before .before
+
 end-number-requires : tie.Need-end-number-requires
 end-number-requires c κs = search needs
 
@@ -20,7 +26,9 @@ cast-t9 : tie.Need-cast-t9
 cast-t9 c = search needs
 
 returns : tie.Need-returns
-returns c = words-of (c .before .before .before .before .before .before .args .f) _ _ _ (c .before .before .before .before .before .end-number .ensures) (c .before .before .before .before .end-number2 .ensures) (c .before .before .before .bool-number .ensures)
+returns c =
+    let k = told c in
+    words-of (start k .args .f) _ _ _ (k .before .before .end-number .ensures) (k .before .end-number2 .ensures) (k .bool-number .ensures)
 
 pub found-words-spec : {M : Type 1} → statement M
 found-words-spec =

@@ -1,8 +1,33 @@
 -- `edge::rondo_consolidate` meets its contract: `consolidate::consolidate`, with the flags as a number and the answer taken apart. Assumes nothing.
-use Rattle.edge.proofs.Laws.{run-wrote, run-refused}
+use mathlib.Core.Path.{_≡_}
+use Rattle.model.specs.Store.{call, consolidateCall}
+use Rattle.bits.specs.One.{lentAt}
+use Rattle.edge.proofs.Laws.{doneAfter, ran, run-wrote, run-refused}
 use borrow.Author.Needs.{needs}
 use Rattle.edge.proofs.rondo_consolidate.Statement.{statement}
 use Rattle.edge.proofs.rondo_consolidate.Tie as tie
+
+-- ---- what the run left, said once where the flags are a number again
+
+abbrev at-run : tie.After-number-of → tie.After-consolidate
+at-run c = c .before .before .before .before
+
+abbrev at-flags : tie.After-consolidate → tie.After-flags-of
+at-flags c = c .before .before
+
+abbrev start : tie.After-number-of → tie.Start
+start c = at-flags (at-run c) .before .before .before
+
+run : (c : tie.After-number-of)
+    → (let k = at-run c .consolidate in
+      let a = start c .args in
+      doneAfter (k .result .answer) (lentAt (k .last .0) (c .number-of .result)) ≡ call (lentAt (a .image .now) (a .flags .now)) consolidateCall)
+run c =
+    let flags = at-flags (at-run c) .flags-of in
+    let done = at-run c .consolidate in
+    ran _ _ _ _ _ (flags .result) (done .result .flags) (flags .ensures) (c .number-of .ensures .1) (done .ensures)
+
+-- ---- the needs
 
 flags-of-requires : tie.Need-flags-of-requires
 flags-of-requires c κs = search needs
@@ -26,13 +51,17 @@ same-length : tie.Need-same-length
 same-length c = search needs
 
 returns : tie.Need-returns
-returns c = run-wrote (c .before .before .before .before .before .before .before .before .before .before .before .before .args .image .now) _ (c .before .before .before .before .before .before .before .before .before .flags-of .result) (c .before .before .before .before .before .before .before .consolidate .result .flags) _ _ (c .before .before .before .before .before .before .before .before .before .before .before .before .args .count .now) (c .before .before .before .before .before .before .before .consolidate .result .answer) (c .before .before .before .before .before .before .before .before .before .flags-of .ensures) (c .before .before .before .number-of .ensures .1) (c .before .before .before .before .before .before .before .consolidate .ensures) _ (c .before .answer .given .1)
+returns c =
+    let k = c .before .before .before in
+    run-wrote _ _ _ _ _ (start k .args .count .now) (run k) (c .before .answer .given .1)
 
 same-length-2 : tie.Need-same-length-2
 same-length-2 c = search needs
 
 returns-2 : tie.Need-returns-2
-returns-2 c = run-refused (c .before .before .before .before .before .before .before .before .before .before .before .before .before .args .image .now) _ (c .before .before .before .before .before .before .before .before .before .before .flags-of .result) (c .before .before .before .before .before .before .before .before .consolidate .result .flags) _ _ (c .before .before .before .before .before .before .before .before .before .before .before .before .before .args .count .now) (c .before .before .before .before .before .before .before .before .consolidate .result .answer) (c .before .before .before .before .before .before .before .before .before .before .flags-of .ensures) (c .before .before .before .before .number-of .ensures .1) (c .before .before .before .before .before .before .before .before .consolidate .ensures) _ _ (c .before .before .answer2 .given .1) (c .refusal-number .ensures)
+returns-2 c =
+    let k = c .before .before .before .before in
+    run-refused _ _ _ _ _ (start k .args .count .now) (run k) (c .before .before .answer2 .given .1) (c .refusal-number .ensures)
 
 pub rondo-consolidate-spec : {M : Type 1} → statement M
 rondo-consolidate-spec =

@@ -1,10 +1,16 @@
 -- `edge::rondo_create` meets its contract: `create::create`, with the flags as a number. Assumes nothing.
-use mathlib.Core.Path.{ap, _∙_}
+use mathlib.Core.Path.{_∙_}
 use Rattle.model.specs.Lent.{creation}
-use Rattle.edge.proofs.Laws.{lent-in, lent-out}
+use Rattle.edge.proofs.Laws.{crossed}
 use borrow.Author.Needs.{needs}
 use Rattle.edge.proofs.rondo_create.Statement.{statement}
 use Rattle.edge.proofs.rondo_create.Tie as tie
+
+abbrev at-create : tie.After-outcome-number → tie.After-create
+at-create c = c .before .before .before .before .before
+
+abbrev at-flags : tie.After-create → tie.After-flags-of
+at-flags c = c .before .before
 
 flags-of-requires : tie.Need-flags-of-requires
 flags-of-requires c κs = search needs
@@ -22,7 +28,13 @@ same-length : tie.Need-same-length
 same-length c = search needs
 
 returns : tie.Need-returns
-returns c = (c .outcome-number .ensures ∙ c .before .before .before .before .before .create .ensures .0, lent-out _ (c .before .before .before .before .before .create .result .flags) _ (c .before .number-of .ensures .1) ∙ c .before .before .before .before .before .create .ensures .1 ∙ ap (creation (c .before .before .before .before .before .before .before .before .before .before .before .args .plan .now)) (lent-in (c .before .before .before .before .before .before .before .before .before .before .before .args .image .now) (c .before .before .before .before .before .before .before .flags-of .result) _ (c .before .before .before .before .before .before .before .flags-of .ensures)))
+returns c =
+    let done = at-create c .create in
+    let flags = at-flags (at-create c) .flags-of in
+    (
+      c .outcome-number .ensures ∙ done .ensures .0,
+      crossed _ _ (creation _) (flags .result) (done .result .flags) (flags .ensures) (c .before .number-of .ensures .1) (done .ensures .1),
+    )
 
 pub rondo-create-spec : {M : Type 1} → statement M
 rondo-create-spec =

@@ -11,6 +11,16 @@ use borrow.Author.Needs.{needs}
 use Rattle.edge.proofs.rondo_image_size.Statement.{statement}
 use Rattle.edge.proofs.rondo_image_size.Tie as tie
 
+-- ---- the plan passed, said once
+
+abbrev start : tie.After-enum-told → tie.Start
+start c = c .before .before .before .before
+
+passed : (c : tie.After-enum-told) → planCheck (start c .args .plan .now) ≡ 0
+passed c = sym (c .before .before .check-plan .ensures) ∙ ap outcomeNo (c .enum-told .given .1)
+
+-- ---- the needs
+
 check-plan-requires : tie.Need-check-plan-requires
 check-plan-requires c κs = search needs
 
@@ -24,18 +34,21 @@ outcome-number-requires : tie.Need-outcome-number-requires
 outcome-number-requires c κs = search needs
 
 returns : tie.Need-returns
-returns c = (c .outcome-number .ensures ∙ c .before .before .before .check-plan .ensures, left-alone _ _ _ (λ z. refusal-no (c .before .enum-told2 .given .0 .0) (sym (ap outcomeNo (c .before .enum-told2 .given .1)) ∙ c .before .before .before .check-plan .ensures ∙ z)))
+returns c =
+    let told = c .before .enum-told2 .given in
+    let check = c .before .before .before .check-plan .ensures in
+    (c .outcome-number .ensures ∙ check, left-alone _ _ _ (λ z. refusal-no (told .0 .0) (sym (ap outcomeNo (told .1)) ∙ check ∙ z)))
 
 length-of-requires : tie.Need-length-of-requires
-length-of-requires c κs = plan-parts (c .before .before .before .before .args .plan .now) (sym (c .before .before .check-plan .ensures) ∙ ap outcomeNo (c .enum-told .given .1)) .0
+length-of-requires c κs = plan-parts _ (passed c) .0
 
 returns-2 : tie.Need-returns-2
 returns-2 c =
-    let s = c .before .before .before .before .before .args .plan .now in
-    let passed : planCheck s ≡ 0 = sym (c .before .before .before .check-plan .ensures) ∙ ap outcomeNo (c .before .enum-told .given .1) in
-    let small : imageLength s ≤ 1099511627776 = plan-parts s passed .1 in
+    let k = c .before in
+    let s = start k .args .plan .now in
+    let small : imageLength s ≤ 1099511627776 = plan-parts s (passed k) .1 in
     let is : c .length-of .result ≡ imageLength s = omega (arith, c .length-of .ensures) in
-    (sym passed, is ∙ set-anew (planCheck s) _ (imageLength s) passed)
+    (sym (passed k), is ∙ set-anew (planCheck s) _ (imageLength s) (passed k))
 
 pub rondo-image-size-spec : {M : Type 1} → statement M
 rondo-image-size-spec =

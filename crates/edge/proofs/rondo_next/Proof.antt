@@ -6,6 +6,19 @@ use borrow.Author.Needs.{needs}
 use Rattle.edge.proofs.rondo_next.Statement.{statement}
 use Rattle.edge.proofs.rondo_next.Tie as tie
 
+-- ---- the step that was taken, said once
+
+abbrev start : tie.After-step → tie.Start
+start c = c .before .before .before .before
+
+stepped : (c : tie.After-step) → (let a = start c .args in c .step .result ≡ stepAt (a .slab .now) (a .column) (a .start) (a .end) (a .place .now))
+stepped c = cc
+
+abbrev at-step : tie.After-place → tie.After-step
+at-step c = c .before .before
+
+-- ---- the needs
+
 element-copy-out-t14 : tie.Need-element-copy-out-t14
 element-copy-out-t14 c = search needs
 
@@ -23,17 +36,14 @@ enum-told c = search needs
 
 returns : tie.Need-returns
 returns c =
-    let a = c .before .before .before .before .before .before .before .before .before .before .args in
-    let e : c .before .before .before .before .before .before .step .result ≡ stepAt (a .slab .now) (a .column) (a .start) (a .end) (a .place .now) = cc in
-    let h = step-handed (c .before .before .before .before .before .before .step .result) _ (c .before .before .next .given .0 .0) (a .point .now) e (c .before .before .next .given .1) in
-    (h .0, (h .1, h .2))
+    let told = c .before .before in
+    let k = at-step (told .before .before) in
+    step-handed (k .step .result) _ (told .next .given .0 .0) (start k .args .point .now) (stepped k) (told .next .given .1)
 
 returns-2 : tie.Need-returns-2
 returns-2 c =
-    let a = c .before .before .before .before .before .before .before .before .args in
-    let e : c .before .before .before .before .step .result ≡ stepAt (a .slab .now) (a .column) (a .start) (a .end) (a .place .now) = cc in
-    let h = step-finished (c .before .before .before .before .step .result) _ (a .point .now) e (c .enum-told .given .1) in
-    (h .0, (h .1, h .2))
+    let k = at-step (c .before .before) in
+    step-finished (k .step .result) _ (start k .args .point .now) (stepped k) (c .enum-told .given .1)
 
 pub rondo-next-spec : {M : Type 1} → statement M
 rondo-next-spec =

@@ -1,10 +1,13 @@
 -- `edge::rondo_open` meets its contract: `open::open`, with the flags as a number. Assumes nothing.
-use mathlib.Core.Path.{ap, _∙_}
+use mathlib.Core.Path.{_∙_}
 use Rattle.model.specs.Lent.{opening}
-use Rattle.edge.proofs.Laws.{lent-in, lent-out}
+use Rattle.edge.proofs.Laws.{crossed}
 use borrow.Author.Needs.{needs}
 use Rattle.edge.proofs.rondo_open.Statement.{statement}
 use Rattle.edge.proofs.rondo_open.Tie as tie
+
+abbrev at-open : tie.After-outcome-number → tie.After-open
+at-open c = c .before .before .before
 
 flags-of-requires : tie.Need-flags-of-requires
 flags-of-requires c κs = search needs
@@ -19,7 +22,13 @@ outcome-number-requires : tie.Need-outcome-number-requires
 outcome-number-requires c κs = search needs
 
 returns : tie.Need-returns
-returns c = (c .outcome-number .ensures ∙ c .before .before .before .«open» .ensures .0, lent-out _ (c .before .before .before .«open» .result .flags) _ (c .before .number-of .ensures .1) ∙ c .before .before .before .«open» .ensures .1 ∙ ap opening (lent-in (c .before .before .before .before .before .before .before .args .image .now) (c .before .before .before .before .flags-of .result) _ (c .before .before .before .before .flags-of .ensures)))
+returns c =
+    let done = at-open c .«open» in
+    let flags = at-open c .before .flags-of in
+    (
+      c .outcome-number .ensures ∙ done .ensures .0,
+      crossed _ _ opening (flags .result) (done .result .flags) (flags .ensures) (c .before .number-of .ensures .1) (done .ensures .1),
+    )
 
 pub rondo-open-spec : {M : Type 1} → statement M
 rondo-open-spec =

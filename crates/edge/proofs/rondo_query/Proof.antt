@@ -1,6 +1,5 @@
 -- `edge::rondo_query` meets its contract: opening's refusal, or what `query::query_numbered` answers, as numbers. Assumes nothing.
 use mathlib.Core.Path.{sym, _∙_}
-use Rattle.bits.specs.Bits.{bits}
 use Rattle.query.proofs.Laws.{unopened}
 use Rattle.edge.proofs.Laws.{asked, not-found}
 use borrow.Author.Needs.{needs}
@@ -11,10 +10,7 @@ check-requires : tie.Need-check-requires
 check-requires c κs = search needs
 
 returns : tie.Need-returns
-returns c =
-    let a = c .before .before .before .args in
-    let n = c .before .check .result in
-    not-found n (a .answer .now) (unopened (a .image .now) (bits 32 (a .flags)) (a .schema) (a .column) (a .start) (a .end) n (a .tier) (c .if1 .taken) (c .before .check .ensures))
+returns c = let n = c .before .check in not-found _ _ (unopened _ _ _ _ _ _ _ _ (c .if1 .taken) (n .ensures))
 
 query-numbered-requires : tie.Need-query-numbered-requires
 query-numbered-requires c κs = sym (c .before .check .ensures) ∙ c .if1 .left
@@ -24,9 +20,9 @@ answer-query-requires c κs = search needs
 
 returns-2 : tie.Need-returns-2
 returns-2 c =
-    let a = c .before .before .before .before .before .before .args in
     let q = c .before .before .query-numbered in
-    asked (a .image .now) (q .result) _ _ (a .answer .now) _ (c .answer-query .ensures .0) (c .answer-query .ensures .1) (q .ensures)
+    let answer = c .answer-query .ensures in
+    asked _ (q .result) _ _ _ _ (answer .0) (answer .1) (q .ensures)
 
 pub rondo-query-spec : {M : Type 1} → statement M
 rondo-query-spec =

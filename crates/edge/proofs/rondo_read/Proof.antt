@@ -7,6 +7,20 @@ use borrow.Author.Needs.{needs}
 use Rattle.edge.proofs.rondo_read.Statement.{statement}
 use Rattle.edge.proofs.rondo_read.Tie as tie
 
+-- ---- what was fetched, said once
+
+abbrev start : tie.After-fetch → tie.Start
+start c = c .before .before .before .before .before .before
+
+moved : (c : tie.After-fetch)
+    → (let a = start c .args in c .fetch .result .place ≡ fetchAt (length (a .points .now) / 2) (a .slab .now) (a .column) (a .start) (a .end) (a .place .now) .place)
+moved c = cc
+
+abbrev at-fetch : tie.After-place → tie.After-fetch
+at-fetch c = c .before .before .before .before
+
+-- ---- the needs
+
 element-copy-out-slot : tie.Need-element-copy-out-slot
 element-copy-out-slot c = search needs
 
@@ -21,9 +35,9 @@ same-length c = search needs
 
 returns : tie.Need-returns
 returns c =
-    let a = c .before .before .before .before .before .before .before .before .before .before .args in
-    let e : c .before .before .before .before .fetch .result .place ≡ fetchAt (length (a .points .now) / 2) (a .slab .now) (a .column) (a .start) (a .end) (a .place .now) .place = cc in
-    (c .before .before .before .before .fetch .ensures .0, (ap placeWords e, c .before .before .before .before .fetch .ensures .1 .1))
+    let k = at-fetch c in
+    let done = k .fetch .ensures in
+    (done .0, (ap placeWords (moved k), done .1 .1))
 
 pub rondo-read-spec : {M : Type 1} → statement M
 rondo-read-spec =

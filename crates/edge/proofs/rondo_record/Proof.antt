@@ -1,6 +1,5 @@
 -- `edge::rondo_record` meets its contract: opening's refusal, or what `numbered::record` does. Assumes nothing.
 use mathlib.Core.Path.{sym, _∙_}
-use Rattle.bits.specs.Bits.{bits}
 use Rattle.record.specs.Ready.{unopened, refused-by}
 use Rattle.edge.proofs.Laws.{record-call}
 use borrow.Author.Needs.{needs}
@@ -15,14 +14,11 @@ same-length c = search needs
 
 returns : tie.Need-returns
 returns c =
-    let a = c .before .before .before .before .args in
-    let s = a .image .now in
-    let bs = bits 32 (a .flags .now) in
-    let n = c .before .check .result in
-    record-call _ _ _ _ _ _ n (refused-by s bs (a .schema) (a .column) (a .value) (a .stamp) n (c .if1 .taken) (unopened s bs (a .schema) (a .column) (a .value) (a .stamp) n (c .if1 .taken) (c .before .check .ensures)))
+    let k = c .before .check in
+    record-call _ _ _ _ _ _ _ (refused-by _ _ _ _ _ _ _ (c .if1 .taken) (unopened _ _ _ _ _ _ _ (c .if1 .taken) (k .ensures)))
 
 record-requires : tie.Need-record-requires
-record-requires c κs = sym (c .before .before .before .check .ensures) ∙ c .before .before .if1 .left
+record-requires c κs = let k = c .before .before in sym (k .before .check .ensures) ∙ k .if1 .left
 
 same-length-2 : tie.Need-same-length-2
 same-length-2 c = search needs

@@ -1,7 +1,5 @@
 -- `edge::rondo_record_batch` meets its contract: opening's refusal, or what `batch::batch_opened` does, its outcome as a number. Assumes nothing.
 use mathlib.Core.Path.{sym, _∙_}
-use Rattle.model.specs.Record.{entries}
-use Rattle.bits.specs.One.{lentAt}
 use Rattle.batch.proofs.Laws.{not-opened}
 use Rattle.edge.proofs.Laws.{batch-call}
 use borrow.Author.Needs.{needs}
@@ -15,13 +13,10 @@ same-length : tie.Need-same-length
 same-length c = search needs
 
 returns : tie.Need-returns
-returns c =
-    let a = c .before .before .before .before .before .args in
-    let n = c .before .check .result in
-    batch-call _ _ _ _ n (not-opened (lentAt (a .image .now) (a .flags .now)) (a .stamp) (entries (a .batch .now)) n (c .before .check .ensures) (c .if1 .taken))
+returns c = batch-call _ _ _ _ _ (not-opened _ _ _ _ (c .before .check .ensures) (c .if1 .taken))
 
 batch-opened-requires : tie.Need-batch-opened-requires
-batch-opened-requires c κs = sym (c .before .before .before .check .ensures) ∙ c .before .before .if1 .left
+batch-opened-requires c κs = let k = c .before .before in sym (k .before .check .ensures) ∙ k .if1 .left
 
 outcome-number-requires : tie.Need-outcome-number-requires
 outcome-number-requires c κs = search needs
