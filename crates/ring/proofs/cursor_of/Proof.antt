@@ -10,7 +10,7 @@ get-u32-requires c κs = omega (arith, header-in (c .before .pre))
 
 returns : tie.Need-returns
 unfolding cursor
-returns c = (c .get-u32 .ensures .0, omega (arith, c .before .before .pre .cursor-in))
+returns c = (c .get-u32 .ensures .0, omega arith)
 
 pub cursor-of-spec : {M : Type 1} → statement M
 cursor-of-spec = tie.close (tie.spec get-u32-requires returns)

@@ -27,7 +27,7 @@ returns-2 : tie.Need-returns-2
 returns-2 c =
     let d = c .before .before in
     let a = start (d .before) in
-    (cc (first-round _ _ _ (a .pre) (a .args .wrapped) (c .before .if2 .taken) (λ e. d .if1 .left (cc))), c .next-slot .ensures .1, omega arith)
+    (cc (first-round _ _ _ (a .pre) (a .args .wrapped) (search needs) (λ e. d .if1 .left (cc))), c .next-slot .ensures .1, omega arith)
 
 add-t9 : tie.Need-add-t9
 add-t9 c = search needs
