@@ -1,4 +1,5 @@
 // An item's call, carried out by the library's cores and compared with the stored answer.
+use crate::stored;
 
 // The flags that a call left, and whether its answer is unlike the stored one.
 pub struct Done {

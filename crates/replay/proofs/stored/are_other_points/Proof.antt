@@ -1,8 +1,8 @@
--- `stored::are_other_points` is safe and ends: the number of points compared grows up to `count`. Assumes nothing.
+-- `replay::stored::are_other_points` is safe and ends: the number of points compared grows up to `count`. Assumes nothing.
 use Prim.Native.Nat.{_≤_, _-_}
 use borrow.Author.Needs.{needs}
-use Rattle.stored.proofs.are_other_points.Statement.{statement}
-use Rattle.stored.proofs.are_other_points.Tie as tie
+use Rattle.replay.proofs.stored.are_other_points.Statement.{statement}
+use Rattle.replay.proofs.stored.are_other_points.Tie as tie
 
 abbrev Inv-loop : tie.InvT-loop
 Inv-loop item slab count column start end place₀ unlike₀ i₀ place unlike i = i ≤ count

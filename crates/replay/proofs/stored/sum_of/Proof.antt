@@ -1,8 +1,8 @@
--- `stored::sum_of` is safe and ends: the place is within the part, and the sum below the prime. Assumes nothing.
+-- `replay::stored::sum_of` is safe and ends: the place is within the part, and the sum below the prime. Assumes nothing.
 use Prim.Native.Nat.{_≤_, _<_, _-_}
 use native.Mathlib.Omega.{arith}
-use Rattle.stored.proofs.sum_of.Statement.{statement}
-use Rattle.stored.proofs.sum_of.Tie as tie
+use Rattle.replay.proofs.stored.sum_of.Statement.{statement}
+use Rattle.replay.proofs.stored.sum_of.Tie as tie
 
 abbrev Inv-loop : tie.InvT-loop
 Inv-loop s n sum₀ i₀ sum i = (i ≤ n) × (sum < 4294967291)
