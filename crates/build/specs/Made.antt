@@ -42,7 +42,7 @@ module _ (r : Row) where
       → x9 ≡ put 8 x8 48 (r .mark) → x10 ≡ put 8 x9 56 (r .hash) → x10 ≡ rowBytes r
   unfolding rowBytes
   row-made s h e5 e6 e7 e8 e9 e10 =
-      let to-function : Front s _ low 28 = record { is = e5; long = simp (length-append, length-bytes); } in
+      let to-function : Front s _ low 28 = record { is = e5; long = simp (length-append, length-bytes) } in
       let to-series = front-field 4 (r .series) to-function e6 in
       let to-offset = front-field 8 (r .offset) to-series e7 in
       let to-len = front-field 8 (r .len) to-offset e8 in
@@ -191,7 +191,7 @@ module _ (p s : List ℕ) (fits : 32 ≤ length p) where
       → x3 ≡ put 8 x2 24 0 → x4 ≡ splice x3 32 (allRows (placedRows (32 + 64 * n) (rowsTo p n 0))) → x5 ≡ splice x4 (32 + 64 * n) (freshSlabs (rowsTo p n 0))
       → x5 ≡ freshImage p ++ drop (imageLength p) s
   image-made {x2 = x2} h en el e1 e2 e3 e4 e5 =
-      let head : Front s _ (take 16 p) 16 = record { is = e1; long = head-long; } in
+      let head : Front s _ (take 16 p) 16 = record { is = e1; long = head-long } in
       let to-length = front-field 8 (imageLength p) head (rw el at e2) in
       let header = front-part (replicate 8 0) to-length (length-replicate {A = ℕ} 8 0) (e3 ∙ zeros x2) in
       let to-rows = front-part placed header placed-long (rw en at e4) in

@@ -49,11 +49,11 @@ pub record Front (s t xs : List ℕ) (k : ℕ) : Type 0 where
   pub long : length xs ≡ k
 
 pub front-none : (s : List ℕ) → Front s s [] 0
-front-none s = record { is = sym (splice-nil s 0); long = refl; }
+front-none s = record { is = sym (splice-nil s 0); long = refl }
 
 -- a part put right behind, and a field
 pub front-part : {s t u xs : List ℕ} {k : ℕ} (ys : List ℕ) {j : ℕ} → Front s t xs k → length ys ≡ j → u ≡ splice t k ys → Front s u (xs ++ ys) (k + j)
-front-part {s} {xs = xs} {k} ys f l e = record { is = e ∙ grow s xs ys k (f .is) (f .long); long = omega (arith, length-append xs ys, f .long, l); }
+front-part {s} {xs = xs} {k} ys f l e = record { is = e ∙ grow s xs ys k (f .is) (f .long); long = omega (arith, length-append xs ys, f .long, l) }
 
 pub front-field : {s t u xs : List ℕ} {k : ℕ} (w x : ℕ) → Front s t xs k → u ≡ put w t k x → Front s u (xs ++ bytes w x) (k + w)
 front-field w x f e = front-part (bytes w x) f (length-bytes w x) (e ∙ put-splice w _ _ x)
@@ -87,7 +87,7 @@ module _ (hash n m interval : ℕ) where
       → x10 ≡ splice x9 (64 + 4 * m + 8 * n) (copies (n * m) (bytes 8 freshValue)) → x10 ≡ freshSlab hash n m interval
   unfolding freshSlab directory
   slab-made s h e7 e8 e9 e10 =
-      let head : Front s _ (freshHead hash n m interval) 64 = record { is = e7; long = length-head; } in
+      let head : Front s _ (freshHead hash n m interval) 64 = record { is = e7; long = length-head } in
       let a : 64 + 4 * m - 64 ≡ 4 * m = omega arith in
       let b : 64 + 4 * m + 8 * n - (64 + 4 * m) ≡ 8 * n = omega arith in
       let entries = front-part (replicate (4 * m) 255) head (length-replicate {A = ℕ} (4 * m) 255) (rw a at e8) in

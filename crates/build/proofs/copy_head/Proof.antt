@@ -23,7 +23,7 @@ abbrev μ-loop : tie.MeasureT-loop
 μ-loop plan image₀ i₀ image i = 16 - i
 
 loop-holds : tie.Need-loop-holds Inv-loop μ-loop
-loop-holds c = record { in-head = omega arith; same-long = refl; copied = refl; }
+loop-holds c = record { in-head = omega arith; same-long = refl; copied = refl }
 
 shared-slice-read-image : tie.Need-shared-slice-read-image Inv-loop μ-loop
 shared-slice-read-image c = search needs

@@ -73,7 +73,7 @@ add-at : tie.Need-add-at Inv-loop μ-loop
 add-at c = search needs
 
 loop-holds : tie.Need-loop-holds Inv-loop μ-loop
-loop-holds c = record { in-rows = omega arith; same-long = refl; ends-low = c .before .before .pre .1 .0; put = refl; }
+loop-holds c = record { in-rows = omega arith; same-long = refl; ends-low = c .before .before .pre .1 .0; put = refl }
 
 row-at-requires : tie.Need-row-at-requires Inv-loop μ-loop
 row-at-requires c κs = search needs

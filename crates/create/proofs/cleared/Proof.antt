@@ -25,7 +25,7 @@ abbrev μ-loop : tie.MeasureT-loop
 μ-loop n next₀ i₀ next i = n - i
 
 loop-holds : tie.Need-loop-holds Inv-loop μ-loop
-loop-holds c = record { all-flags = search needs; in-first = omega arith; cleared = rw sub-zero; }
+loop-holds c = record { all-flags = search needs; in-first = omega arith; cleared = rw sub-zero }
 
 array-write-next : tie.Need-array-write-next Inv-loop μ-loop
 array-write-next c = search needs

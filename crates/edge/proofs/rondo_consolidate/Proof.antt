@@ -20,8 +20,8 @@ start c = at-flags (at-run c) .before .before .before
 
 run : (c : tie.After-number-of)
     → (let k = at-run c .consolidate in
-      let a = start c .args in
-      doneAfter (k .result .answer) (lentAt (k .last .0) (c .number-of .result)) ≡ call (lentAt (a .image .now) (a .flags .now)) consolidateCall)
+    let a = start c .args in
+    doneAfter (k .result .answer) (lentAt (k .last .0) (c .number-of .result)) ≡ call (lentAt (a .image .now) (a .flags .now)) consolidateCall)
 run c =
     let flags = at-flags (at-run c) .flags-of in
     let done = at-run c .consolidate in

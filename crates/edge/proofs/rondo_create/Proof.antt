@@ -30,8 +30,7 @@ same-length c = search needs
 returns : tie.Need-returns
 returns c =
     let done = at-create c .create in
-    let flags = at-flags (at-create c) .flags-of in
-    (
+    let flags = at-flags (at-create c) .flags-of in (
       c .outcome-number .ensures ∙ done .ensures .0,
       crossed _ _ (creation _) (flags .result) (done .result .flags) (flags .ensures) (c .before .number-of .ensures .1) (done .ensures .1),
     )

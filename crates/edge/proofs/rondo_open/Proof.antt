@@ -24,8 +24,7 @@ outcome-number-requires c κs = search needs
 returns : tie.Need-returns
 returns c =
     let done = at-open c .«open» in
-    let flags = at-open c .before .flags-of in
-    (
+    let flags = at-open c .before .flags-of in (
       c .outcome-number .ensures ∙ done .ensures .0,
       crossed _ _ opening (flags .result) (done .result .flags) (flags .ensures) (c .before .number-of .ensures .1) (done .ensures .1),
     )

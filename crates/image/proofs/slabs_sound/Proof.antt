@@ -41,7 +41,7 @@ slab-in c =
 -- ---- the needs
 
 loop-holds : tie.Need-loop-holds Inv-loop μ-loop
-loop-holds c = record { in-rows = omega arith; tested = refl; }
+loop-holds c = record { in-rows = omega arith; tested = refl }
 
 row-at-requires : tie.Need-row-at-requires Inv-loop μ-loop
 row-at-requires c κs = search needs

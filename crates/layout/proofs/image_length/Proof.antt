@@ -45,7 +45,7 @@ add-at : tie.Need-add-at Inv-loop μ-loop
 add-at c = search needs
 
 loop-holds : tie.Need-loop-holds Inv-loop μ-loop
-loop-holds c = record { in-rows = omega arith; low = omega arith; same-end = refl; }
+loop-holds c = record { in-rows = omega arith; low = omega arith; same-end = refl }
 
 row-at-requires : tie.Need-row-at-requires Inv-loop μ-loop
 row-at-requires c κs = search needs

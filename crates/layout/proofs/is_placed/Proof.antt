@@ -56,7 +56,7 @@ add-at : tie.Need-add-at Inv-loop μ-loop
 add-at c = search needs
 
 loop-holds : tie.Need-loop-holds Inv-loop μ-loop
-loop-holds c = record { in-rows = omega arith; ends-low = c .before .pre .1; tested = refl; }
+loop-holds c = record { in-rows = omega arith; ends-low = c .before .pre .1; tested = refl }
 
 row-at-requires : tie.Need-row-at-requires Inv-loop μ-loop
 row-at-requires c κs = search needs

@@ -57,7 +57,7 @@ returns-4 c =
     let a = start (c .before) in
     let series = c .before .before .get-u322 .ensures in
     let first = start-is (a .args .s .now) (a .args .i) (a .args .k) (d .before .pair .ensures) (d .if1 .left) (a .pre .1)
-        (c .before .before .before .before .get-u32 .ensures .0) (c .before .before .before .if2 .left) (series .0) (c .before .if3 .left) in
+    (c .before .before .before .before .get-u32 .ensures .0) (c .before .before .before .if2 .left) (series .0) (c .before .if3 .left) in
     known-start (a .args .s .now) (a .args .i) (a .args .k) _ first (series .0) (series .1) refl (c .get-u64 .ensures)
 
 pub starts-spec : {M : Type 1} → statement M

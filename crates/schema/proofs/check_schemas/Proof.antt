@@ -30,7 +30,7 @@ abbrev start : tie.At-loop Inv-loop μ-loop → tie.Start Inv-loop μ-loop
 start c = c .before .before
 
 loop-holds : tie.Need-loop-holds Inv-loop μ-loop
-loop-holds c = record { in-schemas = omega arith; passed = laws.schemas-all _ _; }
+loop-holds c = record { in-schemas = omega arith; passed = laws.schemas-all _ _ }
 
 check-schema-requires : tie.Need-check-schema-requires Inv-loop μ-loop
 check-schema-requires c κs = search needs

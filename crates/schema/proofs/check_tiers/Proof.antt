@@ -34,7 +34,7 @@ abbrev read : tie.After-checked-tier Inv-loop μ-loop → tie.After-row-at Inv-l
 read c = c .before .before .before
 
 loop-holds : tie.Need-loop-holds Inv-loop μ-loop
-loop-holds c = record { in-rows = omega arith; passed = refl; }
+loop-holds c = record { in-rows = omega arith; passed = refl }
 
 row-at-requires : tie.Need-row-at-requires Inv-loop μ-loop
 row-at-requires c κs = search needs

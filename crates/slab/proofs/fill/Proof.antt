@@ -23,7 +23,7 @@ abbrev μ-loop : tie.MeasureT-loop
 μ-loop s₀ from end b i₀ s i = end - i
 
 loop-holds : tie.Need-loop-holds Inv-loop μ-loop
-loop-holds c = record { in-part = omega arith; same-long = refl; filled = refl; }
+loop-holds c = record { in-part = omega arith; same-long = refl; filled = refl }
 
 slice-write-s : tie.Need-slice-write-s Inv-loop μ-loop
 slice-write-s c = search needs

@@ -24,7 +24,7 @@ abbrev μ-loop : tie.MeasureT-loop
 μ-loop s₀ from count at₀ left₀ s at left = left
 
 loop-holds : tie.Need-loop-holds Inv-loop μ-loop
-loop-holds c = record { same-end = refl; same-long = refl; filled = refl; }
+loop-holds c = record { same-end = refl; same-long = refl; filled = refl }
 
 put-u64-requires : tie.Need-put-u64-requires Inv-loop μ-loop
 put-u64-requires c κs = search needs
