@@ -37,7 +37,7 @@ fn write_bits(
             outcome: model::Outcome::Refused(model::Refusal::InvalidValue),
         };
     }
-    let good = stamps::is_good(window);
+    let good = field::is_good_stamp(window);
     if !good {
         return Filling {
             wrapped: wrapped,

@@ -78,9 +78,9 @@ pub fn batch_opened(image: &mut [u8], flags: u32, batch: &[u8], stamp: u64) -> b
             flags: flags,
         };
     }
-    let bad = record::is_bad_stamp(stamp);
+    let good = field::is_good_stamp(stamp);
     let infinite = entries::any_infinite(batch);
-    if bad {
+    if !good {
         return bits::Numbered {
             outcome: model::Outcome::Refused(model::Refusal::InvalidTimestamp),
             flags: flags,

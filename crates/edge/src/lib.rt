@@ -76,7 +76,7 @@ pub extern "C" fn rondo_record(
     if opened != 0 {
         return opened;
     }
-    numbered::record(image, flags, handle, value, stamp)
+    record::record_opened(image, flags, handle, value, stamp)
 }
 
 // Records a batch of values at one stamp: 16 bytes an entry, schema u32, column u32, value u64.

@@ -1,4 +1,4 @@
-// Little-endian fields of a lent slice, each an equation with the definition (`get`, `put`), and the two tests of a value's 64-bit pattern by a shift and masks.
+// Little-endian fields of a lent slice, each an equation with the definition (`get`, `put`), the two tests of a value's 64-bit pattern by a shift and masks, and the test of a stamp.
 // A 32-bit field is handed out and taken as u64, with its bound, so that callers compute with it without a cast.
 // The bytes are joined by `|`, left to right, in a function of plain bytes, and stored by `x / 256^k % 256`. In a static library each get is then one load
 // and each put one store: `mov (%rdi,%rdx,1),%rax` for `get_u64`, `mov %ecx,(%rdi,%rdx,1)` for `put_u32`; no test of the index is left.
@@ -8,6 +8,7 @@ ghost use Prim.Native.Nat.{_+_, _<_, _≤_};
 ghost use lib.ListN.{length};
 ghost use Rattle.model.specs.Bytes.{le, get, put};
 ghost use Rattle.model.specs.Ring.{isInfinite, isNaN};
+ghost use Rattle.model.specs.Record.{stampOk};
 ghost use Rattle.field.specs.Indexed.{bytesAt};
 
 // The number that four bytes stand for, the least first.
@@ -110,4 +111,11 @@ pub fn is_nan(bits: u64) -> bool
     ensures { λ r. ⌜ r ≡ isNaN bits ⌝ }
 {
     ((bits >> 52) & 0x7ff) == 0x7ff && (bits & 0xf_ffff_ffff_ffff) != 0
+}
+
+// A stamp that may be written: not 0, and below 2^63. Others are refused with 13.
+pub fn is_good_stamp(stamp: u64) -> bool
+    ensures { λ r. ⌜ r ≡ stampOk stamp ⌝ }
+{
+    0 < stamp && stamp < 0x8000_0000_0000_0000
 }

@@ -26,15 +26,6 @@ use Rattle.record.specs.Ready.{lentBy, ReadyAt, RowWritten}
 
 -- ---- the stamp
 
--- a stamp above 0 is refused from 2^63 on
-pub bad-stamp : (t : ℕ) → t ≢ 0 → leb (2 ^ 63) t ≡ not (stampOk t)
-unfolding stampOk
-bad-stamp t z = go (decLt t (2 ^ 63))
-  where
-    go : Dec (t < 2 ^ 63) → leb (2 ^ 63) t ≡ not (ltb 0 t && ltb t (2 ^ 63))
-    go (yes p) = rw (no-le (2 ^ 63) t p, yes-lt 0 t (omega arith), yes-lt t (2 ^ 63) p)
-    go (no p) = rw (yes-le (2 ^ 63) t (omega arith), yes-lt 0 t (omega arith), no-lt t (2 ^ 63) (omega arith))
-
 -- ---- the slab lent on
 
 module _ {s : List ℕ} {i from to n m d : ℕ} (p : SlabAt s i from to n m d) where

@@ -2,13 +2,12 @@
 // lent on as a part of the image; other slabs' bytes, other rows' flags and the surplus stay. `ready` asks for no flag and `store`
 // for one, so that a caller may keep its flags as it likes.
 ghost use mathlib.Core.Path.{_≡_};
-ghost use mathlib.Core.Bool.{not};
 ghost use Prim.Native.Nat.{_<_};
 ghost use Rattle.model.specs.Words.{outcomeNo};
 ghost use Rattle.model.specs.Image.{rowCount, rowAt, openCheck};
-ghost use Rattle.model.specs.Record.{stampOk};
 ghost use Rattle.ring.specs.Parts.{one};
 ghost use Rattle.lent.specs.Parts.{lentOf};
+ghost use Rattle.bits.specs.One.{lentAt};
 ghost use Rattle.record.specs.Done.{RecordDone};
 ghost use Rattle.record.specs.Ready.{Readied, RowWritten};
 
@@ -16,13 +15,6 @@ ghost use Rattle.record.specs.Ready.{Readied, RowWritten};
 pub struct Recorded {
     pub outcome: model::Outcome,
     pub flags: model::Flags,
-}
-
-// A stamp that is refused: 0, or 2^63 and above.
-pub fn is_bad_stamp(stamp: u64) -> bool
-    ensures { λ r. ⌜ r ≡ not (stampOk stamp) ⌝ }
-{
-    stamp == 0 || stamp >= 0x8000_0000_0000_0000
 }
 
 // Stores one value in a row's ring, as if its flag were `wrapped`. Answers the flag after it.
@@ -72,11 +64,11 @@ pub fn ready_opened(image: &[u8], handle: model::SeriesHandle, value: u64, stamp
         return Target::Refused(model::Refusal::InvalidHandle);
     };
     let infinite = field::is_infinite(value);
-    let bad = is_bad_stamp(stamp);
+    let good = field::is_good_stamp(stamp);
     if infinite {
         return Target::Refused(model::Refusal::InvalidValue);
     }
-    if bad {
+    if !good {
         return Target::Refused(model::Refusal::InvalidTimestamp);
     }
     Target::Row(row)
@@ -118,5 +110,30 @@ pub fn record(
             outcome: model::Outcome::Refused(r),
             flags: flags,
         },
+    }
+}
+
+// Records one value, once opening's check has passed, with the flags as one number, as it crosses the edge to C. No flag is read: the row's ring is written as
+// if its flag were off, which gives the same bytes, and the flag is set, in place, where the write went below the cursor. Answers 0, or the refusal's number.
+pub fn record_opened(
+    image: &mut [u8],
+    flags: &mut u32,
+    handle: model::SeriesHandle,
+    value: u64,
+    stamp: u64,
+) -> u32
+    requires { ⌜ openCheck (now image) ≡ 0 ⌝ }
+    ensures { λ n. ⌜ RecordDone (lentAt (now (image .entry)) (now (flags .entry))) (handle .schema) (handle .column) value stamp n (lentAt (now (image .exit)) (now (flags .exit))) ⌝ }
+{
+    let found = ready_opened(image, handle, value, stamp);
+    match found {
+        Target::Row(row) => {
+            let lower = store(image, row, handle.column as usize, value, stamp, false);
+            if lower {
+                *flags = bits::with_flag(*flags, row, true);
+            }
+            0
+        }
+        Target::Refused(r) => model::refusal_number(r),
     }
 }

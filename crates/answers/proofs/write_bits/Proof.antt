@@ -28,7 +28,7 @@ abbrev tested : tie.Else2 → tie.Else1
 tested d = d .before .before
 
 stamp-good : (d : tie.Else2) → stampOk (start (tested d) .args .window) ≡ true
-stamp-good d = sym (d .before .is-good .ensures) ∙ not-false _ (d .if2 .left)
+stamp-good d = sym (d .before .is-good-stamp .ensures) ∙ not-false _ (d .if2 .left)
 
 -- ---- the needs
 
@@ -41,14 +41,14 @@ returns c =
     let refused = refused-value (filled a) (a .args .window) (a .args .column) (a .args .bits) (sym (c .before .is-infinite .ensures) ∙ c .if1 .taken) in
     (refused, (a .pre .sound, omega arith))
 
-is-good-requires : tie.Need-is-good-requires
-is-good-requires c κs = search needs
+is-good-stamp-requires : tie.Need-is-good-stamp-requires
+is-good-stamp-requires c κs = search needs
 
 returns-2 : tie.Need-returns-2
 returns-2 c =
     let k = c .before .before in
     let a = start k in
-    let bad = sym (c .before .is-good .ensures) ∙ not-true _ (c .if2 .taken) in
+    let bad = sym (c .before .is-good-stamp .ensures) ∙ not-true _ (c .if2 .taken) in
     (refused-stamp (filled a) (a .args .window) (a .args .column) (a .args .bits) (finite k) bad, (a .pre .sound, omega arith))
 
 write-requires : tie.Need-write-requires
@@ -74,7 +74,7 @@ write-bits-spec =
     (tie.spec
     is-infinite-requires
     returns
-    is-good-requires
+    is-good-stamp-requires
     returns-2
     write-requires
     add-t19

@@ -33,7 +33,7 @@ abbrev at-fit : tie.After-any-infinite → tie.Else2
 at-fit c = c .before .before
 
 timely : (c : tie.Else3) → stampOk (asked (at-fit (c .before)) .args .stamp) ≡ true
-timely c = not-false _ (sym (c .before .before .is-bad-stamp .ensures) ∙ c .if3 .left)
+timely c = sym (c .before .before .is-good-stamp .ensures) ∙ not-false _ (c .if3 .left)
 
 abbrev at-tests : tie.Else4 → tie.Else2
 at-tests c = at-fit (c .before .before)
@@ -59,8 +59,8 @@ returns-2 c =
     let k = at-some (c .before) in
     refused-handle _ _ (start k .pre) _ (some k) (not-true _ (sym (c .before .any-outside .ensures) ∙ c .if2 .taken))
 
-is-bad-stamp-requires : tie.Need-is-bad-stamp-requires
-is-bad-stamp-requires c κs = search needs
+is-good-stamp-requires : tie.Need-is-good-stamp-requires
+is-good-stamp-requires c κs = search needs
 
 any-infinite-requires : tie.Need-any-infinite-requires
 any-infinite-requires c κs = search needs
@@ -71,7 +71,7 @@ same-length-2 c = search needs
 returns-3 : tie.Need-returns-3
 returns-3 c =
     let k = at-fit (c .before) in
-    refused-stamp _ _ (asked k .pre) _ (some (at-some (k .before))) (fit k) (not-true _ (sym (c .before .before .is-bad-stamp .ensures) ∙ c .if3 .taken))
+    refused-stamp _ _ (asked k .pre) _ (some (at-some (k .before))) (fit k) (sym (c .before .before .is-good-stamp .ensures) ∙ not-true _ (c .if3 .taken))
 
 same-length-3 : tie.Need-same-length-3
 same-length-3 c = search needs
@@ -102,7 +102,7 @@ batch-opened-spec =
     any-outside-requires
     same-length
     returns-2
-    is-bad-stamp-requires
+    is-good-stamp-requires
     any-infinite-requires
     same-length-2
     returns-3

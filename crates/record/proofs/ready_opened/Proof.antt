@@ -21,7 +21,7 @@ asked c = start (c .before .before)
 row-is : (c : tie.After-found) → finestOf (asked c .args .image .now) (asked c .args .handle .schema) (asked c .args .handle .column) ≡ At (c .found .given .0 .0)
 row-is c = sym (c .before .before .finest-row .ensures) ∙ c .found .given .1
 
-abbrev at-row : tie.After-is-bad-stamp → tie.After-found
+abbrev at-row : tie.After-is-good-stamp → tie.After-found
 at-row c = c .before .before .before
 
 finite : (c : tie.Else1) → isInfinite (asked (at-row (c .before)) .args .value) ≡ false
@@ -52,8 +52,8 @@ returns c =
 is-infinite-requires : tie.Need-is-infinite-requires
 is-infinite-requires c κs = search needs
 
-is-bad-stamp-requires : tie.Need-is-bad-stamp-requires
-is-bad-stamp-requires c κs = search needs
+is-good-stamp-requires : tie.Need-is-good-stamp-requires
+is-good-stamp-requires c κs = search needs
 
 returns-2 : tie.Need-returns-2
 returns-2 c =
@@ -63,12 +63,12 @@ returns-2 c =
 returns-3 : tie.Need-returns-3
 returns-3 c =
     let k = at-row (c .before .before) in
-    refused-stamp _ _ _ _ _ (asked k .pre) (row-is k) (finite (c .before)) (not-true _ (sym (c .before .before .is-bad-stamp .ensures) ∙ c .if2 .taken))
+    refused-stamp _ _ _ _ _ (asked k .pre) (row-is k) (finite (c .before)) (sym (c .before .before .is-good-stamp .ensures) ∙ not-true _ (c .if2 .taken))
 
 returns-4 : tie.Need-returns-4
 returns-4 c =
     let k = at-row (c .before .before) in
-    ready-at _ _ _ _ _ (asked k .pre) (row-is k) (finite (c .before)) (not-false _ (sym (c .before .before .is-bad-stamp .ensures) ∙ c .if2 .left))
+    ready-at _ _ _ _ _ (asked k .pre) (row-is k) (finite (c .before)) (sym (c .before .before .is-good-stamp .ensures) ∙ not-false _ (c .if2 .left))
 
 pub ready-opened-spec : {M : Type 1} → statement M
 ready-opened-spec =
@@ -81,7 +81,7 @@ ready-opened-spec =
     enum-told
     returns
     is-infinite-requires
-    is-bad-stamp-requires
+    is-good-stamp-requires
     returns-2
     returns-3
     returns-4)

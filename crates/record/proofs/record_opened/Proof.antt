@@ -1,13 +1,13 @@
--- `numbered::record` meets its contract: the refusal that `ready_opened` found, or the write to the row that it found, with its flag set where the write
+-- `record::record_opened` meets its contract: the refusal that `ready_opened` found, or the write to the row that it found, with its flag set where the write
 -- went below the cursor. Assumes nothing.
 use native.Mathlib.Omega.{arith}
 use mathlib.Core.Path.{refl}
 use Rattle.lent.specs.Handle.{row-there}
 use Rattle.bits.specs.One.{lentAt}
 use Rattle.record.specs.Ready.{ReadyAt, row-ready, refusal-ready, refused, recorded-as-off}
 use borrow.Author.Needs.{needs}
-use Rattle.numbered.proofs.record.Statement.{statement}
-use Rattle.numbered.proofs.record.Tie as tie
+use Rattle.record.proofs.record_opened.Statement.{statement}
+use Rattle.record.proofs.record_opened.Tie as tie
 
 -- ---- what `ready_opened` told, said once where it is known
 
@@ -73,8 +73,8 @@ returns-3 c =
     let ready = c .before .before .before .before .ready-opened .ensures in
     rw (c .refusal-number .ensures) (refused _ _ _ _ _ _ (told .0 .0) (refusal-ready _ _ _ _ _ (told .1) ready))
 
-pub record-spec : {M : Type 1} → statement M
-record-spec =
+pub record-opened-spec : {M : Type 1} → statement M
+record-opened-spec =
     tie.close
     (tie.spec
     ready-opened-requires
