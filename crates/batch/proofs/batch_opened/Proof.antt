@@ -3,7 +3,7 @@ use native.Mathlib.Omega.{arith}
 use mathlib.Core.Path.{_≡_, sym, _∙_}
 use mathlib.Core.Logic.{_≢_}
 use lib.ListN.{length}
-use mathlib.Core.Bool.{true}
+use mathlib.Core.Bool.{true, not}
 use Rattle.model.specs.Record.{stampOk, entries, everyEntry}
 use Rattle.entries.specs.Entries.{fits, finite}
 use borrow.Author.Tests.{not-true, not-false}
@@ -29,17 +29,18 @@ asked c = start (at-some (c .before))
 fit : (c : tie.Else2) → everyEntry (fits (asked c .args .image .now)) (entries (asked c .args .batch .now)) ≡ true
 fit c = not-false _ (sym (c .before .any-outside .ensures) ∙ c .if2 .left)
 
+-- the other two tests are made; back to the handles
 abbrev at-fit : tie.After-any-infinite → tie.Else2
 at-fit c = c .before .before
 
-timely : (c : tie.Else3) → stampOk (asked (at-fit (c .before)) .args .stamp) ≡ true
-timely c = sym (c .before .before .is-good-stamp .ensures) ∙ not-false _ (c .if3 .left)
+stamp-is : (c : tie.After-any-infinite) → stampOk (asked (at-fit c) .args .stamp) ≡ c .before .is-good-stamp .result
+stamp-is c = sym (c .before .is-good-stamp .ensures)
 
-abbrev at-tests : tie.Else4 → tie.Else2
-at-tests c = at-fit (c .before .before)
+values-are : (c : tie.After-any-infinite) → not (everyEntry finite (entries (asked (at-fit c) .args .batch .now))) ≡ c .any-infinite .result
+values-are c = sym (c .any-infinite .ensures)
 
-finites : (c : tie.Else4) → everyEntry finite (entries (asked (at-tests c) .args .batch .now)) ≡ true
-finites c = not-false _ (sym (c .before .before .any-infinite .ensures) ∙ c .if4 .left)
+abbrev at-tests : tie.Else4 → tie.After-any-infinite
+at-tests c = c .before .before
 
 -- ---- the needs
 
@@ -70,20 +71,22 @@ same-length-2 c = search needs
 
 returns-3 : tie.Need-returns-3
 returns-3 c =
-    let k = at-fit (c .before) in
-    refused-stamp _ _ (asked k .pre) _ (some (at-some (k .before))) (fit k) (sym (c .before .before .is-good-stamp .ensures) ∙ not-true _ (c .if3 .taken))
+    let k = c .before in
+    let handles = at-fit k in
+    refused-stamp _ _ (asked handles .pre) _ (some (at-some (handles .before))) (fit handles) (stamp-is k ∙ not-true _ (c .if3 .taken))
 
 same-length-3 : tie.Need-same-length-3
 same-length-3 c = search needs
 
 returns-4 : tie.Need-returns-4
 returns-4 c =
-    let k = at-fit (c .before .before) in
-    let infinite = not-true _ (sym (c .before .before .any-infinite .ensures) ∙ c .if4 .taken) in
-    refused-value _ _ (asked k .pre) _ (some (at-some (k .before))) (fit k) (timely (c .before)) infinite
+    let d = c .before in
+    let k = d .before in
+    let handles = at-fit k in
+    refused-value _ _ (asked handles .pre) _ (some (at-some (handles .before))) (fit handles) (stamp-is k ∙ not-false _ (d .if3 .left)) (not-true _ (values-are k ∙ c .if4 .taken))
 
 store-schemas-requires : tie.Need-store-schemas-requires
-store-schemas-requires c κs = let k = at-tests (c .before) in (asked k .pre, fit k)
+store-schemas-requires c κs = let handles = at-fit (at-tests (c .before)) in (asked handles .pre, fit handles)
 
 same-length-4 : tie.Need-same-length-4
 same-length-4 c = search needs
@@ -92,7 +95,10 @@ returns-5 : tie.Need-returns-5
 returns-5 c =
     let d = c .before .before .before .before in
     let k = at-tests d in
-    recorded _ _ (asked k .pre) _ (some (at-some (k .before))) (fit k) (timely (d .before)) (finites d) (c .before .before .store-schemas .ensures)
+    let handles = at-fit k in
+    let stamp = stamp-is k ∙ not-false _ (d .before .if3 .left) in
+    let values = not-false _ (values-are k ∙ d .if4 .left) in
+    recorded _ _ (asked handles .pre) _ (some (at-some (handles .before))) (fit handles) stamp values (c .before .before .store-schemas .ensures)
 
 pub batch-opened-spec : {M : Type 1} → statement M
 batch-opened-spec =

@@ -1,8 +1,8 @@
 -- `record::ready_opened` meets its contract, one law a way. Assumes nothing.
 use mathlib.Core.Path.{_≡_, sym, _∙_}
 use borrow.Author.Tests.{not-true, not-false}
-use mathlib.Core.Bool.{false}
 use Rattle.model.specs.Ring.{isInfinite}
+use Rattle.model.specs.Record.{stampOk}
 use Rattle.lent.specs.Parts.{finestOf}
 use Rattle.lent.specs.declared.Finest.the-variants.{At}
 use Rattle.record.proofs.Laws.{refused-handle, refused-value, refused-stamp, ready-at}
@@ -21,11 +21,15 @@ asked c = start (c .before .before)
 row-is : (c : tie.After-found) → finestOf (asked c .args .image .now) (asked c .args .handle .schema) (asked c .args .handle .column) ≡ At (c .found .given .0 .0)
 row-is c = sym (c .before .before .finest-row .ensures) ∙ c .found .given .1
 
+-- both tests are made; back to the row
 abbrev at-row : tie.After-is-good-stamp → tie.After-found
 at-row c = c .before .before .before
 
-finite : (c : tie.Else1) → isInfinite (asked (at-row (c .before)) .args .value) ≡ false
-finite c = sym (c .before .before .is-infinite .ensures) ∙ c .if1 .left
+value-is : (c : tie.After-is-good-stamp) → isInfinite (asked (at-row c) .args .value) ≡ c .before .is-infinite .result
+value-is c = sym (c .before .is-infinite .ensures)
+
+stamp-is : (c : tie.After-is-good-stamp) → stampOk (asked (at-row c) .args .stamp) ≡ c .is-good-stamp .result
+stamp-is c = sym (c .is-good-stamp .ensures)
 
 -- ---- the needs
 
@@ -57,18 +61,20 @@ is-good-stamp-requires c κs = search needs
 
 returns-2 : tie.Need-returns-2
 returns-2 c =
-    let k = at-row (c .before) in
-    refused-value _ _ _ _ _ (asked k .pre) (row-is k) (sym (c .before .before .is-infinite .ensures) ∙ c .if1 .taken)
+    let k = c .before in
+    refused-value _ _ _ _ _ (asked (at-row k) .pre) (row-is (at-row k)) (value-is k ∙ c .if1 .taken)
 
 returns-3 : tie.Need-returns-3
 returns-3 c =
-    let k = at-row (c .before .before) in
-    refused-stamp _ _ _ _ _ (asked k .pre) (row-is k) (finite (c .before)) (sym (c .before .before .is-good-stamp .ensures) ∙ not-true _ (c .if2 .taken))
+    let d = c .before in
+    let k = d .before in
+    refused-stamp _ _ _ _ _ (asked (at-row k) .pre) (row-is (at-row k)) (value-is k ∙ d .if1 .left) (stamp-is k ∙ not-true _ (c .if2 .taken))
 
 returns-4 : tie.Need-returns-4
 returns-4 c =
-    let k = at-row (c .before .before) in
-    ready-at _ _ _ _ _ (asked k .pre) (row-is k) (finite (c .before)) (sym (c .before .before .is-good-stamp .ensures) ∙ not-false _ (c .if2 .left))
+    let d = c .before in
+    let k = d .before in
+    ready-at _ _ _ _ _ (asked (at-row k) .pre) (row-is (at-row k)) (value-is k ∙ d .if1 .left) (stamp-is k ∙ not-false _ (c .if2 .left))
 
 pub ready-opened-spec : {M : Type 1} → statement M
 ready-opened-spec =
