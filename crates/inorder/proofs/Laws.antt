@@ -11,7 +11,8 @@ use Rattle.model.specs.Window.{Job, windowOf}
 use Rattle.model.specs.Consolidate.{Filled, nextWindow, windowsFrom, fillWindow}
 use Rattle.window.specs.declared.Reading.{Reading}
 use Rattle.window.specs.Parts.{Readable, jobIn}
-use Rattle.window.proofs.Laws.{order-is, window-again}
+use Rattle.laws.specs.Windows.{window-again}
+use Rattle.window.proofs.Laws.{order-is}
 use Rattle.span.specs.declared.Run.{Run}
 use Rattle.span.specs.Parts.{from, Ran}
 use Rattle.span.specs.Rest.{Rest, nothing-left, run-same, run-done}

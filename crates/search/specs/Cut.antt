@@ -14,8 +14,7 @@ use Rattle.model.specs.Ring.{stamp, cell, slots, order}
 use Rattle.model.specs.Window.{Job, windowOf, held, heldIn, windowAnswer}
 use Rattle.model.specs.Consolidate.{Filled, lower, lowerIf, isNext, leastFrom, nextWindow, windowsFrom, windows, writeAnswer, unlessRefused, fillWindow, fill}
 use Rattle.laws.specs.Tests.{yes-le, yes-lt, no-le, no-lt}
-use Rattle.window.specs.Starts.{window-le, window-mono}
-use Rattle.window.proofs.Laws.{before-start, past-end, other-window}
+use Rattle.laws.specs.Windows.{window-le, window-mono, before-start, past-end, other-window}
 use Rattle.search.specs.Found.{found}
 use Rattle.search.specs.Every.{one, many, many-length, next-no, fewer}
 
@@ -77,7 +76,7 @@ module _ (q : Job) (z : 0 < q .long) (b : ℕ) (edge : windowOf (q .long) b ≡ 
   win-low t h = omega (arith, window-le (q .long) t)
 
   win-high : (t : ℕ) → b ≤ t → b ≤ win t
-  win-high t h = subst (λ (x : ℕ). x ≤ win t) edge (window-mono (q .long) z h)
+  win-high t h = subst (λ (x : ℕ). x ≤ win t) edge (window-mono (q .long) h)
 
   -- a stamp is met by one part alone
   first-part : (a t : ℕ) → t < b → (isNext q a t ≡ isNext early a t) × (isNext late a t ≡ false)

@@ -12,8 +12,7 @@ use Rattle.model.specs.Ring.{stamp, order}
 use Rattle.model.specs.Window.{Job, windowOf}
 use Rattle.model.specs.Consolidate.{lower, lowerIf, isNext, leastFrom, nextWindow}
 use Rattle.laws.specs.Tests.{le-is, lt-is}
-use Rattle.window.specs.Starts.{window-le}
-use Rattle.window.proofs.Laws.{window-again}
+use Rattle.laws.specs.Windows.{window-le, window-again}
 
 -- a start that was found lies from the bound up to the end, and starts a window of length d
 abbrev Within : ℕ → ℕ → ℕ → End → Type 0

@@ -20,8 +20,7 @@ use Rattle.model.specs.Window.{Job, windowOf, held, heldIn, seenOne, seen, keep
 use Rattle.model.specs.Consolidate.{Filled, lower, lowerIf, isNext, leastFrom, nextWindow, windowsFrom, windows, fillWindow, fill}
 use Rattle.laws.specs.Tests.{yes-le, yes-lt, no-le, no-lt, le-is, lt-is, and-left, and-right}
 use Rattle.window.specs.Parts.{along}
-use Rattle.window.specs.Starts.{window-low, window-next}
-use Rattle.window.proofs.Laws.{before-start, past-end, other-window}
+use Rattle.laws.specs.Windows.{window-low, window-next, before-start, past-end, other-window}
 use Rattle.span.specs.Parts.{inRange, isFrom, from, rising, NoneIn}
 
 module _ (q : Job) where

@@ -13,8 +13,7 @@ use Rattle.model.specs.Ring.{stamp, walk}
 use Rattle.model.specs.Window.{Job, windowOf}
 use Rattle.laws.specs.Tests.{yes-le}
 use Rattle.rings.specs.Numbers.{length-walk}
-use Rattle.window.specs.Starts.{window-le, window-mono, window-low, window-next, window-span}
-use Rattle.window.proofs.Laws.{window-again}
+use Rattle.laws.specs.Windows.{window-le, window-mono, window-again, window-low, window-next, window-span}
 use Rattle.search.specs.Cut.{upto}
 use Rattle.strand_theory.specs.Cuts.{In, Before, Cut}
 use Rattle.span.specs.declared.Strand.{Strand}
@@ -91,7 +90,7 @@ module _ (q : Job) (z : 0 < q .long) where
 
       go : Dec (stampOf (c .low) < e) → q .start < e
       go (yes h) = omega (arith, c .low-from)
-      go (no h) = absurd (omega (arith, starts, c .low-under, window-mono (q .long) z {t = e} {u = stampOf (c .low)} (omega arith)))
+      go (no h) = absurd (omega (arith, starts, c .low-under, window-mono (q .long) {t = e} {u = stampOf (c .low)} (omega arith)))
 
   short : {is : List ℕ} {e : ℕ} → (e ≡ q .end) ⊎ Cut q is (q .start) e → e ≤ q .end
   short (inl x) = omega arith
@@ -171,7 +170,7 @@ module _ (q : Job) (z : 0 < q .long) where
   same-window {is} {low} {t} c h k =
       let u = stampOf (c .slot) in
       let b : t < win u + q .long = omega (arith, c .low-is) in
-      omega (arith, c .low-is, window-again (q .long) z u, window-mono (q .long) z {t = win u} {u = t} (omega (arith, c .low-is)), window-low (q .long) z u t b)
+      omega (arith, c .low-is, window-again (q .long) z u, window-mono (q .long) {t = win u} {u = t} (omega (arith, c .low-is)), window-low (q .long) z u t b)
 
   later-window : {is : List ℕ} {low t : ℕ} → Least q is low → low + q .long ≤ t → low + q .long ≤ win t
   later-window {is} {low} {t} c h =

@@ -15,7 +15,8 @@ use Rattle.model.specs.Window.{Job, windowOf}
 use Rattle.model.specs.Consolidate.{endAfter}
 use Rattle.laws.specs.Tests.{yes-lt, no-lt}
 use Rattle.strand_theory.specs.Cuts.{In, Before, Cut, Cuts, none, more, Homed, lapOf, Laps}
-use Rattle.strand_theory.specs.Passes.{div-mono, window-mono, window-end, window-again, window-step, window-long, passOf, pass-mono, pass-before, Between}
+use Rattle.laws.specs.Windows.{div-mono, window-mono, window-span, window-again, window-step, window-long}
+use Rattle.strand_theory.specs.Passes.{passOf, pass-mono, pass-before, Between}
 use Rattle.strand_theory.specs.Passes.{between, before-left, before-right, origin, origin-in, in-ring, ahead, cursor-read}
 
 -- ---- how many of these are below c
@@ -171,13 +172,13 @@ module _ (q : Job) (ls : List ℕ) (cur : cursor (q .source .slab) < slots (q .s
         next = omega (arith, window-mono d (c .low-from), step)
 
         again : w e ≡ e
-        again = rw (← c .high-is) (window-again d u long)
+        again = rw (← c .high-is) (window-again d long u)
 
         ends : u < e + d
-        ends = rw (← c .high-is) (window-end d u long)
+        ends = rw (← c .high-is) (window-span d long u)
 
         past : b < e
-        past = omega (arith, c .low-from, window-end d t long, step)
+        past = omega (arith, c .low-from, window-span d long t, step)
 
         go : Dec (0 < t) → Level x (suc k) e
         go (yes pos) =

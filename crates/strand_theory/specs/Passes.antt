@@ -11,51 +11,9 @@ use mathlib.Core.Logic.{_⊎_, inl, inr, _≢_}
 use mathlib.Core.Bool.{Bool, true, false, cond}
 use mathlib.Core.List.{List, [], _∷_}
 use Rattle.model.specs.Ring.{Ring, slots, cursor, walk, isEmpty, firstPlace, order}
-use Rattle.model.specs.Window.{windowOf}
+use Rattle.laws.specs.Windows.{div-mono}
 use Rattle.rings.specs.Numbers.{slotsOf, walk-is, div-is}
 use Rattle.strand_theory.specs.Cuts.{In, Before}
-
--- ---- quotients and windows
-
-pub div-mono : (d : ℕ) {t u : ℕ} → t ≤ u → t / d ≤ u / d
-div-mono zero {t} {u} h = rw (div-zero t, div-zero u) (omega arith)
-div-mono (suc d) {t} {u} h = let z : 0 < suc d = omega arith in le-div-iff-mul-le z .1 (omega (arith, div-mul-le-self t (suc d)))
-
-module _ (d : ℕ) where
-  pub window-mono : {t u : ℕ} → t ≤ u → windowOf d t ≤ windowOf d u
-  unfolding windowOf
-  window-mono h = mul-le-mul-right d (div-mono d h)
-
-  pub window-below : (t : ℕ) → windowOf d t ≤ t
-  unfolding windowOf
-  window-below t = div-mul-le-self t d
-
-  pub window-self : 0 < d → windowOf d d ≡ d
-  unfolding windowOf
-  window-self z = rw (div-self z) (one-mul d)
-
-  pub window-end : (t : ℕ) → 0 < d → t < windowOf d t + d
-  unfolding windowOf
-  window-end t z = lt-div-mul-add z
-
-  pub window-again : (t : ℕ) → 0 < d → windowOf d (windowOf d t) ≡ windowOf d t
-  unfolding windowOf
-  window-again t z = ap (λ (x : ℕ). x * d) (mul-div-cancel (t / d) z)
-
-  -- a later window is later by the windows' length at least
-  pub window-step : (t u : ℕ) → windowOf d t < windowOf d u → windowOf d t + d ≤ windowOf d u
-  unfolding windowOf
-  window-step t u h = go (decLt (t / d) (u / d))
-    where
-      go : Dec (t / d < u / d) → t / d * d + d ≤ u / d * d
-      go (yes k) = omega (arith, mul-le-mul-right d k, suc-mul (t / d) d)
-      go (no k) = let l : u / d ≤ t / d = omega arith in absurd (omega (arith, mul-le-mul-right d l))
-
--- a window that does not start at 0 has a length
-pub window-long : (d t : ℕ) → 0 < windowOf d t → 0 < d
-unfolding windowOf
-window-long zero t h = absurd (omega (arith, mul-zero (t / zero)))
-window-long (suc d) t h = omega arith
 
 -- ---- passes: the numbers stamp / interval in a ring of n slots, the first pass starting at the number g
 

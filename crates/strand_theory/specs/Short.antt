@@ -11,7 +11,8 @@ use Rattle.model.specs.Ring.{slots, interval, cursor, stamp, slotOf, order, new
 use Rattle.model.specs.Window.{Job}
 use Rattle.model.specs.Consolidate.{endAfter}
 use Rattle.strand_theory.specs.Cuts.{In, Cuts, Homed, lapOf}
-use Rattle.strand_theory.specs.Passes.{div-mono, passOf, pass-mono, near-pass, near-number, before-right, origin, origin-in, in-ring, read-at}
+use Rattle.laws.specs.Windows.{div-mono}
+use Rattle.strand_theory.specs.Passes.{passOf, pass-mono, near-pass, near-number, before-right, origin, origin-in, in-ring, read-at}
 use Rattle.strand_theory.specs.Few.{Charges, apart, few-charged, last-is, newest-pass}
 
 -- k passes, from b on

@@ -14,7 +14,7 @@ use Rattle.model.specs.Lent.{Lent, row, ring}
 use Rattle.model.specs.Consolidate.{orZero, startOf, endAfter, jobOf}
 use Rattle.reopening.specs.Reopening.{History, left}
 use Rattle.strand_theory.specs.Cuts.{Cuts, none, more}
-use Rattle.strand_theory.specs.Passes.{window-end}
+use Rattle.laws.specs.Windows.{window-span}
 use Rattle.strand_theory.specs.Short.{short-cuts-from, short-cuts-any}
 use Rattle.strands_kept.specs.Theorem.{midway, AllHome, home-left, home-midway, midway-row, cursor-in, long-cut, behind-zero}
 
@@ -84,7 +84,7 @@ module _ (l : Lent) (a : AllHome l) (i : ℕ) (hi : i < rowCount (l .image)) (f 
   next (more cs c) late u new near =
       let long = long-cut l i f c in
       let s = start-marked (row l i .mark) (row l (suc i) .interval) (ring l i) (omega (arith, long, late)) in
-      let e = window-end (row l (suc i) .interval) (row l i .mark) long in
+      let e = window-span (row l (suc i) .interval) long (row l i .mark) in
       omega (arith, marked (more cs c) (λ h. late) 1 (omega (arith, end-at (ring l i) u new, s, e, near, one-mul (span l i))))
 
   short : {k b : ℕ} → Cuts (jobOf l i f) k b → Short l i k

@@ -23,7 +23,8 @@ use Rattle.frame.specs.Calls.{verdict-after}
 use Rattle.fresh.specs.Creation.{low-open, good-created, created-like, created-flags, created-blank}
 use Rattle.reopened.specs.Each.{Each, slab-of, all-pairs, each-after}
 use Rattle.strand_theory.specs.Cuts.{In, Cut, Cuts, none, more, Passes, Laps}
-use Rattle.strand_theory.specs.Passes.{window-mono, window-self, window-below, window-long, before-left}
+use Rattle.laws.specs.Windows.{window-mono, window-self, window-le, window-long}
+use Rattle.strand_theory.specs.Passes.{before-left}
 use Rattle.strand_theory.specs.Few.{fewer-cuts-from, fewer-cuts}
 use Rattle.strands_kept.specs.Home.{Home, home-blank, home-write, home-opened}
 
@@ -135,7 +136,7 @@ module _ (l : Lent) (i : ℕ) (f : ConsolidationFn) where
       let r = ring l i in
       let d = row l (suc i) .interval in
       let w : 0 < windowOf d (stamp (r .slab) (c .high)) = rw (c .high-is) (omega (arith, c .low-under)) in
-      starts (row l i .mark) d r (c .high) (before-left (c .high) (c .low) (order r) (c .before)) (omega (arith, w, window-below d (stamp (r .slab) (c .high))))
+      starts (row l i .mark) d r (c .high) (before-left (c .high) (c .low) (order r) (c .before)) (omega (arith, w, window-le d (stamp (r .slab) (c .high))))
       (window-long d (stamp (r .slab) (c .high)) w) late
 
 pub cursor-in : (l : Lent) → AllHome l → (i : ℕ) → i < rowCount (l .image) → cursor (ring l i .slab) < slots (ring l i .slab)
