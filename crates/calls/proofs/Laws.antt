@@ -30,14 +30,6 @@ module _ (b : List ℕ) (o : ℕ) where
   unfolding sizeAt
   size-other h = rw (no-eq (u32 b o) 1 h)
 
-  pub size-low : 32 ≤ sizeAt b o
-  unfolding sizeAt batchSize
-  size-low = go (eqb (u32 b o) 1)
-    where
-      go : (t : Bool) → 32 ≤ cond t (32 + 16 * u32 b (o + 12)) 32
-      go true = omega arith
-      go false = omega arith
-
 -- ---- what the call leaves, by its kind
 
 module _ (l : Lent) (b : List ℕ) (o : ℕ) where

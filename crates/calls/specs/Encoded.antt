@@ -2,8 +2,9 @@
 -- number of its entries stands in the tier's place, its stamp in the second u64, and the entries follow, 16 bytes each); 2 queries a tier and 3
 -- automatically (start, end); 4 opens (the 32 flags that it is handed stand in the schema's place, bit i is flag i); any other kind consolidates. A last part
 -- too short for its call is surplus. Assumes nothing.
-use Prim.Native.Nat.{ℕ, zero, suc, _+_, _*_, _/_}
-use mathlib.Core.Bool.{Bool, cond}
+use Prim.Native.Nat.{ℕ, zero, suc, _+_, _*_, _/_, _≤_}
+use native.Mathlib.Omega.{arith}
+use mathlib.Core.Bool.{Bool, true, false, cond}
 use mathlib.Core.List.{List, [], _∷_}
 use lib.ListN.{length}
 use lib.Dec.{leb, eqb}
@@ -20,6 +21,14 @@ batchSize b o = 32 + 16 * u32 b (o + 12)
 -- how many bytes it takes
 unfoldable pub sizeAt : List ℕ → ℕ → ℕ
 sizeAt b o = cond (eqb (u32 b o) 1) (batchSize b o) 32
+
+pub size-low : (b : List ℕ) (o : ℕ) → 32 ≤ sizeAt b o
+unfolding sizeAt batchSize
+size-low b o = go (eqb (u32 b o) 1)
+  where
+    go : (t : Bool) → 32 ≤ cond t (32 + 16 * u32 b (o + 12)) 32
+    go true = omega arith
+    go false = omega arith
 
 unfoldable pub recordAt : List ℕ → ℕ → Call
 recordAt b o = recordCall (u32 b (o + 4)) (u32 b (o + 8)) (u64 b (o + 16)) (u64 b (o + 24))

@@ -14,6 +14,7 @@ use Rattle.frame.specs.Rows.{placed-at, slabsEnd-suc, slabsEnd-le}
 use Rattle.rows.specs.Tests.{and-assoc, and-true}
 use Rattle.rows.specs.Rows.{rowsTo, rows-step, rows-end}
 use Rattle.layout.specs.Ends.{long}
+use Rattle.image.specs.Handed.{handed}
 
 -- a slab lies within the slice, and has room for its header
 pub record Within (s : List ℕ) (r : Row) : Type 0 where
@@ -31,11 +32,6 @@ within s at n i p l h is =
     let e = rw zero-add at (slabsEnd-suc at s 0 i) in
     let m = slabsEnd-le at s 0 (suc i) n h in
     rw is (record { inside = omega arith; head = omega (arith, long (rowSlots (rowAt s i)) (rowAt s i .series)) })
-
--- what is handed on as `&s[offset..end]`
-pub handed : (s : List ℕ) (r : Row) → take (r .offset + r .len - r .offset) (drop (r .offset) s) ≡ slabOf s r
-unfolding slabOf part
-handed s r = let e : r .offset + r .len - r .offset ≡ r .len = omega arith in rw e
 
 pub long-enough : (s : List ℕ) (r : Row) → Within s r → 64 ≤ length (take (r .offset + r .len - r .offset) (drop (r .offset) s))
 unfolding slabOf

@@ -1,3 +1,4 @@
 pub mod Ways
 pub mod Lent
 pub mod Flags
+pub mod Handed

@@ -17,7 +17,7 @@ use Rattle.ring.specs.Parts.{Sized, sized}
 use Rattle.frame.specs.Rows.{length-rowsFrom}
 use Rattle.frame.specs.Good.{Good, good-open, slab-sound, inside-slice}
 use Rattle.rows.specs.Rows.{rowsTo, rows-all, rows-step, rows-end}
-use Rattle.image.proofs.Laws.{handed as slab-is}
+use Rattle.image.specs.Handed.{handed as slab-is}
 use Rattle.image.specs.Flags.{front}
 
 -- ---- the rows of an image in good order

@@ -13,8 +13,7 @@ use Rattle.model.specs.Store.{Call, recordCall, batchCall, queryCall, autoCall,
 use Rattle.laws.specs.Tests.{yes-le, no-le}
 use Rattle.laws.specs.Bytes.{le-bytes}
 use Rattle.bits.specs.Bits.{bits, number, bits-of-number, number-fits}
-use Rattle.calls.specs.Encoded.{batchSize, sizeAt, recordAt, batchAt, queryAt, autoAt, handedAt, openAt, callAt, callsFrom, callsIn}
-use Rattle.calls.proofs.Laws.{size-low}
+use Rattle.calls.specs.Encoded.{batchSize, sizeAt, size-low, recordAt, batchAt, queryAt, autoAt, handedAt, openAt, callAt, callsFrom, callsIn}
 
 -- ---- the bytes of calls
 

@@ -7,7 +7,8 @@ use lib.ListN.{length}
 use Rattle.model.specs.Bytes.{u32}
 use Rattle.model.specs.Lent.{Lent}
 use Rattle.lent.specs.Parts.{lentOf}
-use Rattle.calls.proofs.Laws.{size-low, size-batch, is-record, is-batch, is-query, is-auto, is-open, is-run}
+use Rattle.calls.specs.Encoded.{size-low}
+use Rattle.calls.proofs.Laws.{size-batch, is-record, is-batch, is-query, is-auto, is-open, is-run}
 use borrow.Author.Needs.{needs}
 use Rattle.calls.proofs.carry_one.Statement.{statement}
 use Rattle.calls.proofs.carry_one.Tie as tie

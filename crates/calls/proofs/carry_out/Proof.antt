@@ -6,7 +6,8 @@ use mathlib.Core.List.{List}
 use lib.ListN.{length}
 use Rattle.model.specs.Lent.{Lent}
 use Rattle.lent.specs.Parts.{lentOf}
-use Rattle.calls.proofs.Laws.{Carrying, starts, size-low, ends, ends-short, goes-on}
+use Rattle.calls.specs.Encoded.{size-low}
+use Rattle.calls.proofs.Laws.{Carrying, starts, ends, ends-short, goes-on}
 use borrow.Author.Needs.{needs}
 use Rattle.calls.proofs.carry_out.Statement.{statement}
 use Rattle.calls.proofs.carry_out.Tie as tie
