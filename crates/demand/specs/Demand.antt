@@ -15,7 +15,7 @@ use Rattle.model.specs.Read.{pointsOf}
 use Rattle.model.specs.Lent.{Lent, creation}
 use Rattle.model.specs.Record.{Entry, recordCheck, batchCheck}
 use Rattle.model.specs.Query.{Answered}
-use Rattle.model.specs.Store.{Call, Reply, call, after, recordCall, batchCall, queryCall, autoCall, consolidateCall, openCall, refused, done, wrote, read}
+use Rattle.model.specs.Store.{Call, queryCall, consolidateCall, Reply, refused, done, wrote, read, Deed, reads, records, recordsAll, runs, opens, deed, call, after}
 
 -- ---- the plan: two to four tiers
 
@@ -58,13 +58,15 @@ unfoldable pub ifAccepted : ℕ → List Event → List Event
 ifAccepted zero es = es
 ifAccepted (suc n) es = []
 
+abbrev pub eventsBy : Lent → Deed → List Event
+eventsBy l (reads reply) = []
+eventsBy l (records k c v t) = ifAccepted (recordCheck l k c v t) (took (record { column = c; stamp = t; value = v }) ∷ [])
+eventsBy l (recordsAll es t) = ifAccepted (batchCheck l es t) (map (λ e. took (record { column = e .column; stamp = t; value = e .value })) es)
+eventsBy l runs = ran ∷ []
+eventsBy l (opens fs) = []
+
 unfoldable pub eventsOf : Lent → Call → List Event
-eventsOf l (recordCall k c v t) = ifAccepted (recordCheck l k c v t) (took (record { column = c; stamp = t; value = v }) ∷ [])
-eventsOf l (batchCall es t) = ifAccepted (batchCheck l es t) (map (λ e. took (record { column = e .column; stamp = t; value = e .value })) es)
-eventsOf l (queryCall k c j start end) = []
-eventsOf l (autoCall k c start end) = []
-eventsOf l consolidateCall = ran ∷ []
-eventsOf l (openCall fs) = []
+eventsOf l c = eventsBy l (deed c)
 
 -- each call is lent what the call before left
 unfoldable pub events : Lent → List Call → List Event

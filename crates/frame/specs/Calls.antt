@@ -15,7 +15,7 @@ use Rattle.model.specs.Ring.{wrapFlag}
 use Rattle.model.specs.Lent.{Lent, row, ring, wrapFlags, openOn, opening}
 use Rattle.model.specs.Record.{recordCheck, recordOn, Entry, batchCheck, batchOn}
 use Rattle.model.specs.Consolidate.{runOn, run}
-use Rattle.model.specs.Store.{Call, recordCall, batchCall, queryCall, autoCall, consolidateCall, openCall, finished, call, after}
+use Rattle.model.specs.Store.{Call, Deed, reads, records, recordsAll, runs, opens, deed, doing, finished, call, after}
 use Rattle.frame.specs.Recorded.{handle-in, record-zero}
 use Rattle.frame.specs.Good.{Good, Kept, count-kept, imageLength-kept, open-good, good-open}
 use Rattle.frame.specs.Stays.{Stays, kept-refl, kept-trans, stays-same, stays-write, stays-schemas}
@@ -127,25 +127,33 @@ leaves-opening l g = record {
 }
 
 -- the flags that a call is handed where fs are lent: an opening has its own
+abbrev pub flagsBy : List Bool → Deed → List Bool
+flagsBy fs (reads reply) = fs
+flagsBy fs (records k c v t) = fs
+flagsBy fs (recordsAll es t) = fs
+flagsBy fs runs = fs
+flagsBy fs (opens gs) = gs
+
 abbrev pub flagsTo : List Bool → Call → List Bool
-flagsTo fs (recordCall k c v t) = fs
-flagsTo fs (batchCall es t) = fs
-flagsTo fs (queryCall k c j start end) = fs
-flagsTo fs (autoCall k c start end) = fs
-flagsTo fs consolidateCall = fs
-flagsTo fs (openCall gs) = gs
+flagsTo fs c = flagsBy fs (deed c)
+
+abbrev handedBy : Lent → Deed → Lent
+handedBy l d = record { image = l .image; flags = flagsBy (l .flags) d }
 
 abbrev pub handed : Lent → Call → Lent
 handed l c = record { image = l .image; flags = flagsTo (l .flags) c }
 
+stays-deed : (l : Lent) → Good (l .image) → (d : Deed) → Leaves (handedBy l d) (doing l d .lent)
+unfolding finished run
+stays-deed l g (reads reply) = leaves (stays-same l g)
+stays-deed l g (records k c v t) = leaves (stays-record (recordCheck l k c v t) l g k c v t refl)
+stays-deed l g (recordsAll es t) = leaves (stays-batch (batchCheck l es t) l g es t)
+stays-deed l g runs = leaves (stays-run (openCheck (l .image)) l g)
+stays-deed l g (opens fs) = leaves-opening (record { image = l .image; flags = fs }) g
+
 pub stays-call : (l : Lent) → Good (l .image) → (c : Call) → Leaves (handed l c) (call l c .lent)
-unfolding call finished run
-stays-call l g (recordCall k c v t) = leaves (stays-record (recordCheck l k c v t) l g k c v t refl)
-stays-call l g (batchCall es t) = leaves (stays-batch (batchCheck l es t) l g es t)
-stays-call l g (queryCall k c j start end) = leaves (stays-same l g)
-stays-call l g (autoCall k c start end) = leaves (stays-same l g)
-stays-call l g consolidateCall = leaves (stays-run (openCheck (l .image)) l g)
-stays-call l g (openCall fs) = leaves-opening (record { image = l .image; flags = fs }) g
+unfolding call
+stays-call l g c = stays-deed l g (deed c)
 
 -- the flags that were handed last
 abbrev pub flagsLast : List Bool → List Call → List Bool
@@ -155,17 +163,16 @@ flagsLast fs (c ∷ cs) = flagsLast (flagsTo fs c) cs
 abbrev pub handedLast : Lent → List Call → Lent
 handedLast l cs = record { image = l .image; flags = flagsLast (l .flags) cs }
 
-leaves-handed : (l m : Lent) → Leaves l m → (c : Call) → Leaves (handed l c) (handed m c)
-leaves-handed l m h (recordCall k c v t) = h
-leaves-handed l m h (batchCall es t) = h
-leaves-handed l m h (queryCall k c j start end) = h
-leaves-handed l m h (autoCall k c start end) = h
-leaves-handed l m h consolidateCall = h
-leaves-handed l m h (openCall fs) = record { good = h .good; image-is = h .image-is; surplus-is = h .surplus-is; flags-are = λ x. refl; flags-past = λ j x. refl }
+leaves-handed : (l m : Lent) → Leaves l m → (d : Deed) → Leaves (handedBy l d) (handedBy m d)
+leaves-handed l m h (reads reply) = h
+leaves-handed l m h (records k c v t) = h
+leaves-handed l m h (recordsAll es t) = h
+leaves-handed l m h runs = h
+leaves-handed l m h (opens fs) = record { good = h .good; image-is = h .image-is; surplus-is = h .surplus-is; flags-are = λ x. refl; flags-past = λ j x. refl }
 
 leaves-last : (l m : Lent) → Leaves l m → (cs : List Call) → Leaves (handedLast l cs) (handedLast m cs)
 leaves-last l m h [] = h
-leaves-last l m h (c ∷ cs) = leaves-last (handed l c) (handed m c) (leaves-handed l m h c) cs
+leaves-last l m h (c ∷ cs) = leaves-last (handed l c) (handed m c) (leaves-handed l m h (deed c)) cs
 
 pub stays-after : (l : Lent) → Good (l .image) → (cs : List Call) → Leaves (handedLast l cs) (after l cs)
 unfolding after
@@ -183,15 +190,18 @@ after-append (c ∷ cs) l ds = after-append cs (call l c .lent) ds
 
 -- ---- where the checks do not pass, nothing changes
 
+refused-deed : (l : Lent) (n : ℕ) → openCheck (l .image) ≡ suc n → (d : Deed) → doing l d .lent ≡ handedBy l d
+unfolding finished run recordCheck recordOn batchCheck batchOn runOn opening openOn first
+refused-deed l n h (reads reply) = refl
+refused-deed l n h (records k c v t) = rw h
+refused-deed l n h (recordsAll [] t) = rw h
+refused-deed l n h (recordsAll (e ∷ es) t) = rw h
+refused-deed l n h runs = rw h
+refused-deed l n h (opens fs) = rw h
+
 pub refused-call : (l : Lent) (n : ℕ) → openCheck (l .image) ≡ suc n → (c : Call) → call l c .lent ≡ handed l c
-unfolding call finished run recordCheck recordOn batchCheck batchOn runOn opening openOn first
-refused-call l n h (recordCall k c v t) = rw h
-refused-call l n h (batchCall [] t) = rw h
-refused-call l n h (batchCall (e ∷ es) t) = rw h
-refused-call l n h (queryCall k c j start end) = refl
-refused-call l n h (autoCall k c start end) = refl
-refused-call l n h consolidateCall = rw h
-refused-call l n h (openCall fs) = rw h
+unfolding call
+refused-call l n h c = refused-deed l n h (deed c)
 
 -- the verdict is the same before and after
 pub verdict-call : (l : Lent) (c : Call) → openCheck (call l c .lent .image) ≡ openCheck (l .image)

@@ -54,13 +54,32 @@ pub record Done : Type 0 where
 unfoldable pub finished : Run → Done
 finished u = record { reply = wroteOr (u .refusal) (u .count); lent = u .lent }
 
+-- what a call does to the store: it reads it and leaves it as it is; it records a value, or a batch; it runs; it opens it with these flags. A further call that
+-- only reads is one line more in `deed`
+pub data Deed : Type 0 where
+  reads : (reply : Lent → Reply) → Deed
+  records : (schema column value stamp : ℕ) → Deed
+  recordsAll : List Entry → (stamp : ℕ) → Deed
+  runs : Deed
+  opens : (handed : List Bool) → Deed
+
+abbrev pub deed : Call → Deed
+deed (recordCall k c v t) = records k c v t
+deed (batchCall es t) = recordsAll es t
+deed (queryCall k c j start end) = reads (λ l. readOr (query l k c j start end))
+deed (autoCall k c start end) = reads (λ l. readOr (queryAuto l k c start end))
+deed consolidateCall = runs
+deed (openCall fs) = opens fs
+
+abbrev pub doing : Lent → Deed → Done
+doing l (reads reply) = record { reply = reply l; lent = l }
+doing l (records k c v t) = let n = recordCheck l k c v t in record { reply = doneOr n; lent = recordOn n l k c v t }
+doing l (recordsAll es t) = let n = batchCheck l es t in record { reply = doneOr n; lent = batchOn n l es t }
+doing l runs = finished (run l)
+doing l (opens fs) = record { reply = doneOr (openCheck (l .image)); lent = opening (record { image = l .image; flags = fs }) }
+
 unfoldable pub call : Lent → Call → Done
-call l (recordCall k c v t) = let n = recordCheck l k c v t in record { reply = doneOr n; lent = recordOn n l k c v t }
-call l (batchCall es t) = let n = batchCheck l es t in record { reply = doneOr n; lent = batchOn n l es t }
-call l (queryCall k c j start end) = record { reply = readOr (query l k c j start end); lent = l }
-call l (autoCall k c start end) = record { reply = readOr (queryAuto l k c start end); lent = l }
-call l consolidateCall = finished (run l)
-call l (openCall fs) = record { reply = doneOr (openCheck (l .image)); lent = opening (record { image = l .image; flags = fs }) }
+call l c = doing l (deed c)
 
 -- what a list of calls leaves, and what they reply
 unfoldable pub after : Lent → List Call → Lent

@@ -24,7 +24,7 @@ use Rattle.model.specs.Lent.{Lent, row, ring, withRing, rowNo, opening}
 use Rattle.model.specs.Record.{Entry, stampOk, writeTo, recordCheck, recordOn, batchCheck, entriesOf, writeSome, writeSchemas, batchOn}
 use Rattle.model.specs.Consolidate.{Filled, writeCheck, writeOn, writeBits, writeAnswer, unlessRefused, fillWindow, fill, Run, refuseRun, stampsBelow, orZero, windows, jobOf, filled}
 use Rattle.model.specs.Consolidate.{withMark, closePair, pairWith, pairBy, pair, pairIf, pairs, runOn, run}
-use Rattle.model.specs.Store.{Call, recordCall, batchCall, queryCall, autoCall, consolidateCall, openCall, finished, call, after}
+use Rattle.model.specs.Store.{Call, Deed, reads, records, recordsAll, runs, opens, deed, doing, finished, call, after}
 use Rattle.rings.specs.Sound.{Sound, sound-write}
 use Rattle.frame.specs.Checks.{first-zero, unless-zero, sound-keeps}
 use Rattle.frame.specs.Recorded.{stamp-low, stamp-pos, handle-in, record-zero, batch-zero, batch-none}
@@ -254,14 +254,17 @@ module _ (P : ℕ → ℕ → Ring → Type 0)
 
   -- ---- any call, and any list of them
 
+  each-deed : (l : Lent) (d : Deed) → Each l → Each (doing l d .lent)
+  unfolding finished run
+  each-deed l (reads reply) h = h
+  each-deed l (records k c v t) h = recorded (recordCheck l k c v t) l k c v t refl h
+  each-deed l (recordsAll es t) h = batched (batchCheck l es t) l es t refl h
+  each-deed l runs h = ran (openCheck (l .image)) l h
+  each-deed l (opens fs) h = opened l fs h
+
   pub each-call : (l : Lent) (c : Call) → Each l → Each (call l c .lent)
-  unfolding call finished run
-  each-call l (recordCall k c v t) h = recorded (recordCheck l k c v t) l k c v t refl h
-  each-call l (batchCall es t) h = batched (batchCheck l es t) l es t refl h
-  each-call l (queryCall k c j start end) h = h
-  each-call l (autoCall k c start end) h = h
-  each-call l consolidateCall h = ran (openCheck (l .image)) l h
-  each-call l (openCall fs) h = opened l fs h
+  unfolding call
+  each-call l c h = each-deed l (deed c) h
 
   pub each-after : (cs : List Call) (l : Lent) → Each l → Each (after l cs)
   unfolding after

@@ -9,7 +9,7 @@ use Rattle.model.specs.Lent.{Lent, ring, tiers, rowNo}
 use Rattle.model.specs.Record.{Entry, handleOk, writeTo, recordCheck, recordOn, batchCheck, entriesOf, writeSome, writeSchemas, batchOn}
 use Rattle.model.specs.Query.{queryCheck, autoCheck, queryOn, query, queryAuto}
 use Rattle.model.specs.Consolidate.{pairs, runOn, run}
-use Rattle.model.specs.Store.{Call, recordCall, batchCall, queryCall, autoCall, consolidateCall, openCall, readOr, finished, call, after, shown}
+use Rattle.model.specs.Store.{Call, recordCall, batchCall, queryCall, autoCall, consolidateCall, openCall, readOr, Deed, reads, records, recordsAll, runs, opens, deed, doing, finished, call, after, shown}
 use Rattle.frame.specs.Calls.{opened-image, verdict-call}
 use Rattle.reopened.specs.Tidy.{Tidy, tidy-write, tidy-opened}
 use Rattle.reopened.specs.Each.{each-call}
@@ -110,14 +110,17 @@ module _ (l l' : Lent) (h : Twins l l') where
   reply-same consolidateCall = let e = even-run l l' h in rw (e .count-is, e .refusal-is)
   reply-same (openCall fs) = rw (ap openCheck img)
 
+  image-deed : (d : Deed) → doing l' d .lent .image ≡ doing l d .lent .image
+  unfolding finished
+  image-deed (reads reply) = img
+  image-deed (records k c v t) = rw (record-check l l' img k c v t) (record-image l l' img (recordCheck l k c v t) k c v t)
+  image-deed (recordsAll es t) = rw (batch-check l l' img es t) (batch-image (batchCheck l es t) es t l l' img)
+  image-deed runs = even-run l l' h .image-is
+  image-deed (opens fs) = opened-image (record { image = l' .image; flags = fs }) ∙ img ∙ sym (opened-image (record { image = l .image; flags = fs }))
+
   image-same : (c : Call) → call l' c .lent .image ≡ call l c .lent .image
-  unfolding call finished
-  image-same (recordCall k c v t) = rw (record-check l l' img k c v t) (record-image l l' img (recordCheck l k c v t) k c v t)
-  image-same (batchCall es t) = rw (batch-check l l' img es t) (batch-image (batchCheck l es t) es t l l' img)
-  image-same (queryCall k c j start end) = img
-  image-same (autoCall k c start end) = img
-  image-same consolidateCall = even-run l l' h .image-is
-  image-same (openCall fs) = opened-image (record { image = l' .image; flags = fs }) ∙ img ∙ sym (opened-image (record { image = l .image; flags = fs }))
+  unfolding call
+  image-same c = image-deed (deed c)
 
   twins-call : (c : Call) → Twins (call l c .lent) (call l' c .lent)
   twins-call c = record {

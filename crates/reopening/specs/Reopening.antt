@@ -8,7 +8,7 @@ use lib.Dec.{T, leb, eqb}
 use Rattle.model.specs.Image.{schemas, createCheck}
 use Rattle.model.specs.Lent.{Lent, creation, row, rowNo}
 use Rattle.model.specs.Record.{Entry, recordCheck, batchCheck}
-use Rattle.model.specs.Store.{Call, recordCall, batchCall, queryCall, autoCall, consolidateCall, openCall, call, after, shown}
+use Rattle.model.specs.Store.{Call, openCall, Deed, reads, records, recordsAll, runs, opens, deed, call, after, shown}
 use Rattle.demand.specs.Demand.{handedOut}
 
 -- a plan, what creation is lent, the calls from creation on, and the flags that an opening behind them is handed
@@ -48,13 +48,15 @@ names k [] = false
 names k (e ∷ es) = eqb (e .schema) k || names k es
 
 -- the stamp that a call stores in the finest ring of schema k: that of an accepted recording
+abbrev pub stampBy : ℕ → Lent → Deed → List ℕ
+stampBy k l (reads reply) = []
+stampBy k l (records k' c v t) = cond (eqb (recordCheck l k' c v t) 0 && eqb k' k) (t ∷ []) []
+stampBy k l (recordsAll es t) = cond (eqb (batchCheck l es t) 0 && names k es) (t ∷ []) []
+stampBy k l runs = []
+stampBy k l (opens fs) = []
+
 unfoldable pub stampOf : ℕ → Lent → Call → List ℕ
-stampOf k l (recordCall k' c v t) = cond (eqb (recordCheck l k' c v t) 0 && eqb k' k) (t ∷ []) []
-stampOf k l (batchCall es t) = cond (eqb (batchCheck l es t) 0 && names k es) (t ∷ []) []
-stampOf k l (queryCall k' c j start end) = []
-stampOf k l (autoCall k' c start end) = []
-stampOf k l consolidateCall = []
-stampOf k l (openCall fs) = []
+stampOf k l c = stampBy k l (deed c)
 
 -- each call is lent what the call before left
 unfoldable pub stampsOf : ℕ → Lent → List Call → List ℕ

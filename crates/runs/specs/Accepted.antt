@@ -8,8 +8,8 @@ use lib.Dec.{lit<}
 use Rattle.model.specs.Image.{openCheck}
 use Rattle.model.specs.Lent.{Lent}
 use Rattle.model.specs.Record.{Entry, recordCheck, batchCheck}
-use Rattle.model.specs.Store.{Call, recordCall, batchCall, queryCall, autoCall, consolidateCall, openCall, call}
-use Rattle.demand.specs.Demand.{Sample, took, ifAccepted, eventsOf, events, samplesIn, firstOf, lastOf}
+use Rattle.model.specs.Store.{Call, Deed, reads, records, recordsAll, runs, opens, deed, call}
+use Rattle.demand.specs.Demand.{Sample, took, ifAccepted, eventsBy, eventsOf, events, samplesIn, firstOf, lastOf}
 use Rattle.frame.specs.Recorded.{record-zero, batch-zero}
 use Rattle.frame.specs.Calls.{verdict-call}
 use Rattle.samples.specs.Lists.{samples-append}
@@ -37,20 +37,23 @@ accepted-batch m zero t [] h = tt
 accepted-batch m zero t (x ∷ xs) h = let z = h refl in (z .0, z .1, z .2, accepted-batch m zero t xs h)
 accepted-batch m (suc n) t xs h = tt
 
-accepted-call : (l : Lent) (c : Call) → Accepted (openCheck (l .image)) (samplesIn (eventsOf l c))
-unfolding eventsOf samplesIn
-accepted-call l (recordCall k c v t) =
+accepted-deed : (l : Lent) (d : Deed) → Accepted (openCheck (l .image)) (samplesIn (eventsBy l d))
+unfolding samplesIn
+accepted-deed l (reads reply) = tt
+accepted-deed l (records k c v t) =
     accepted-record (openCheck (l .image)) (recordCheck l k c v t) (record { column = c; stamp = t; value = v }) (λ e. let z = record-zero l k c v t e in (z .3, z .2, z .0))
-accepted-call l (batchCall [] t) = none (batchCheck l [] t)
+accepted-deed l (recordsAll [] t) = none (batchCheck l [] t)
   where
     none : (n : ℕ) → Accepted (openCheck (l .image)) (samplesIn (ifAccepted n []))
     none zero = unfold ifAccepted in tt
     none (suc n) = unfold ifAccepted in tt
-accepted-call l (batchCall (x ∷ xs) t) = accepted-batch (openCheck (l .image)) (batchCheck l (x ∷ xs) t) t (x ∷ xs) (λ e. let z = batch-zero l x xs t e in (z .3, z .2, z .0))
-accepted-call l (queryCall k c j start end) = tt
-accepted-call l (autoCall k c start end) = tt
-accepted-call l consolidateCall = tt
-accepted-call l (openCall fs) = tt
+accepted-deed l (recordsAll (x ∷ xs) t) = accepted-batch (openCheck (l .image)) (batchCheck l (x ∷ xs) t) t (x ∷ xs) (λ e. let z = batch-zero l x xs t e in (z .3, z .2, z .0))
+accepted-deed l runs = tt
+accepted-deed l (opens fs) = tt
+
+accepted-call : (l : Lent) (c : Call) → Accepted (openCheck (l .image)) (samplesIn (eventsOf l c))
+unfolding eventsOf
+accepted-call l c = accepted-deed l (deed c)
 
 pub accepted-calls : (cs : List Call) (l : Lent) → Accepted (openCheck (l .image)) (samplesIn (events l cs))
 unfolding events

@@ -11,8 +11,8 @@ use Rattle.model.specs.Image.{rowCount, schemas}
 use Rattle.model.specs.Ring.{ColumnValue}
 use Rattle.model.specs.Lent.{Lent, row, tiers, rowNo}
 use Rattle.model.specs.Record.{Entry, seriesOf, handleOk, writeTo, recordCheck, recordOn, everyEntry, batchCheck, keepEntry, entriesOf, writeSome, writeSchemas, batchOn}
-use Rattle.model.specs.Store.{Call, recordCall, batchCall, queryCall, autoCall, consolidateCall, openCall, finished, call, after}
-use Rattle.demand.specs.Demand.{Sample, Event, took, ifAccepted, eventsOf, events, samplesIn, lastOf, scheduled}
+use Rattle.model.specs.Store.{Call, Deed, reads, records, recordsAll, runs, opens, deed, doing, finished, call, after}
+use Rattle.demand.specs.Demand.{Sample, Event, took, ifAccepted, eventsBy, eventsOf, events, samplesIn, lastOf, scheduled}
 use Rattle.laws.specs.Tests.{and-left, and-right, lt-is}
 use Rattle.frame.specs.Recorded.{record-zero, batch-zero}
 use Rattle.frame.specs.Tiers.{rowNo-one, series-one}
@@ -117,24 +117,28 @@ module _ {S : Setup} {l : Lent} (base : Base S l) where
 
 -- ---- any call
 
-one-call : {S : Setup} {l : Lent} {ys : List Sample} (more : List Event) {e g : ℕ} → Between S l ys e g → (c : Call)
-    → Fits S (ys ++ samplesIn (eventsOf l c ++ more))
-    → scheduled (S .coarsest) (lastOf ys) (lastStamp (intervalOf S 0) (firstNo S 0) g) (eventsOf l c ++ more) ≡ true → Next S (call l c .lent) (ys ++ samplesIn (eventsOf l c)) more
-unfolding call eventsOf
-one-call {l = l} more lv (recordCall k c v t) f sch =
+one-deed : {S : Setup} {l : Lent} {ys : List Sample} (more : List Event) {e g : ℕ} → Between S l ys e g → (d : Deed)
+    → Fits S (ys ++ samplesIn (eventsBy l d ++ more))
+    → scheduled (S .coarsest) (lastOf ys) (lastStamp (intervalOf S 0) (firstNo S 0) g) (eventsBy l d ++ more) ≡ true → Next S (doing l d .lent) (ys ++ samplesIn (eventsBy l d)) more
+one-deed more lv (reads reply) f sch = idle more lv sch
+one-deed {l = l} more lv (records k c v t) f sch =
     recorded more lv (recordCheck l k c v t) (λ n. recordOn n l k c v t) t (record { column = c; stamp = t; value = v } ∷ [])
     (λ i. unfold recordOn in refl) (record-stores (lv .base) k c v t) f sch
-one-call {l = l} more lv (batchCall xs t) f sch =
+one-deed {l = l} more lv (recordsAll xs t) f sch =
     let e = map-map took (sampleOf t) xs in
     rw (← e)
     (recorded more lv (batchCheck l xs t) (λ n. batchOn n l xs t) t (map (sampleOf t) xs) (λ i. unfold batchOn in refl)
     (batch-stores (lv .base) xs t) (rw (← e) at f) (rw (← e) at sch))
-one-call more lv (queryCall k c tier start end) f sch = idle more lv sch
-one-call more lv (autoCall k c start end) f sch = idle more lv sch
-one-call {ys = ys} more lv consolidateCall f sch =
+one-deed {ys = ys} more lv runs f sch =
     unfold finished samplesIn in (
     rw (append-nil ys) (let r = ran-here more lv f sch in record { e = r .e; f = r .e; store = r .store; on-schedule = r .on-schedule }))
-one-call more lv (openCall fs) f sch = idle more (between-again lv fs) sch
+one-deed more lv (opens fs) f sch = idle more (between-again lv fs) sch
+
+one-call : {S : Setup} {l : Lent} {ys : List Sample} (more : List Event) {e g : ℕ} → Between S l ys e g → (c : Call)
+    → Fits S (ys ++ samplesIn (eventsOf l c ++ more))
+    → scheduled (S .coarsest) (lastOf ys) (lastStamp (intervalOf S 0) (firstNo S 0) g) (eventsOf l c ++ more) ≡ true → Next S (call l c .lent) (ys ++ samplesIn (eventsOf l c)) more
+unfolding call eventsOf
+one-call more lv c f sch = one-deed more lv (deed c) f sch
 
 -- ---- a list of calls
 

@@ -11,8 +11,8 @@ use Rattle.model.specs.Image.{schemas, first, unless}
 use Rattle.model.specs.Lent.{Lent, tiers}
 use Rattle.model.specs.Record.{Entry, handleOk, recordCheck, recordOn, batchCheck, batchOn}
 use Rattle.model.specs.Query.{queryCheck, answered, queryOn, query}
-use Rattle.model.specs.Store.{Call, recordCall, batchCall, queryCall, autoCall, consolidateCall, openCall, readOr, call, after}
-use Rattle.demand.specs.Demand.{Event, took, ran, ifAccepted, eventsOf, events, handedOut}
+use Rattle.model.specs.Store.{Call, queryCall, readOr, Deed, reads, records, recordsAll, runs, opens, deed, doing, call, after}
+use Rattle.demand.specs.Demand.{Event, took, ran, ifAccepted, eventsBy, eventsOf, events, handedOut}
 use Rattle.laws.specs.Tests.{yes-lt}
 use Rattle.rings.specs.Hold.{firstHeld}
 use Rattle.rings.specs.Read.{pts, all-points}
@@ -49,18 +49,20 @@ module _ {S : Setup} {e : ℕ} where
   same : {l m : Lent} → m ≡ l → Settled S l e → Settled S m e
   same h st = subst (λ (m : Lent). Settled S m e) (sym h) st
 
-  settled-call : (l : Lent) (c : Call) → eventsOf l c ≡ [] → Settled S l e → Settled S (call l c .lent) e
-  unfolding eventsOf call
-  settled-call l (recordCall k c v t) h st = same (idle-record l (recordCheck l k c v t) k c v t (took (record { column = c; stamp = t; value = v })) h) st
-  settled-call l (batchCall xs t) h st = same (idle-batch l (batchCheck l xs t) (λ x. took (record { column = x .column; stamp = t; value = x .value })) xs t h) st
-  settled-call l (queryCall k c j start end) h st = st
-  settled-call l (autoCall k c start end) h st = st
-  settled-call l consolidateCall h st = absurd (not-nil ran [] h)
-  settled-call l (openCall fs) h st = record {
+  settled-deed : (l : Lent) (d : Deed) → eventsBy l d ≡ [] → Settled S l e → Settled S (doing l d .lent) e
+  settled-deed l (reads reply) h st = st
+  settled-deed l (records k c v t) h st = same (idle-record l (recordCheck l k c v t) k c v t (took (record { column = c; stamp = t; value = v })) h) st
+  settled-deed l (recordsAll xs t) h st = same (idle-batch l (batchCheck l xs t) (λ x. took (record { column = x .column; stamp = t; value = x .value })) xs t h) st
+  settled-deed l runs h st = absurd (not-nil ran [] h)
+  settled-deed l (opens fs) h st = record {
     base = base-again (st .base) fs;
     tiers = λ j x. tier-again (st .base) fs j e x (st .tiers j x);
     marks = λ j x. mark-again (st .base) fs j ∙ st .marks j x;
   }
+
+  settled-call : (l : Lent) (c : Call) → eventsOf l c ≡ [] → Settled S l e → Settled S (call l c .lent) e
+  unfolding eventsOf call
+  settled-call l c h st = settled-deed l (deed c) h st
 
   pub settled-calls : (cs : List Call) (l : Lent) → events l cs ≡ [] → Settled S l e → Settled S (after l cs) e
   unfolding events after
