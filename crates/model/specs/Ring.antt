@@ -72,12 +72,20 @@ moveCursor false s i = s
 unfoldable pub flagAfter : Ring → ℕ → Bool
 flagAfter r i = r .wrapped || ltb i (cursor (r .slab))
 
--- stamp t and the values, stored in t's slot: `write` for one value, `write_batch` for any number, none included
-unfoldable pub write : Ring → List ColumnValue → ℕ → Ring
-write r es t =
+-- stamp t and these cells, stored in t's slot
+unfoldable pub store : Ring → List ColumnValue → ℕ → Ring
+store r es t =
     let s = r .slab in
     let i = slotOf s t in
     record { slab = moveCursor (flagAfter r i || leb (cursor s) i) (putCells (put64 s (stampAt s i) t) i es) i; wrapped = flagAfter r i }
+
+-- the cells that a write of these values at t stores: the values as given
+unfoldable pub cellsFor : List ℕ → List ColumnValue → ℕ → List ColumnValue
+cellsFor s es t = es
+
+-- stamp t and the values: `write` for one value, `write_batch` for any number, none included
+unfoldable pub write : Ring → List ColumnValue → ℕ → Ring
+write r es t = store r (cellsFor (r .slab) es t) t
 
 -- ---- the reading order
 
@@ -136,5 +144,5 @@ wrapFlag s = anyStamp s (suc (cursor s)) (slots s - suc (cursor s))
 
 -- names every definition of this module, for a proof by computation: `unfolding Ring-defs`
 unfoldable pub Ring-defs : Unit {0}
-unfolding slots series interval cursor stampAt cellAt stamp cell isInfinite isNaN slotOf putCells moveCursor flagAfter write walk isEmpty firstPlace order endOf newest orStamp firstStamp oldest anyStamp wrapFlag
+unfolding slots series interval cursor stampAt cellAt stamp cell isInfinite isNaN slotOf putCells moveCursor flagAfter store cellsFor write walk isEmpty firstPlace order endOf newest orStamp firstStamp oldest anyStamp wrapFlag
 Ring-defs = tt

@@ -11,7 +11,7 @@ use lib.ListN.{length, getD, set}
 use borrow.Rule.Slice.PartMut.{putMid, midOf}
 use Rattle.model.specs.Bytes.{part}
 use Rattle.model.specs.Image.{unless, first, rowAt, slabOf, openCheck}
-use Rattle.model.specs.Ring.{Ring, ColumnValue, flagAfter, write, isInfinite}
+use Rattle.model.specs.Ring.{Ring, ColumnValue, flagAfter, store, write, isInfinite}
 use Rattle.model.specs.Lent.{row, ring, withRing}
 use Rattle.model.specs.Record.{stampOk, recordCheck}
 use Rattle.laws.specs.Tests.{yes-le, yes-lt, no-le, no-lt}
@@ -50,7 +50,7 @@ module _ {s : List ℕ} {i from to n m d : ℕ} (p : SlabAt s i from to n m d) w
         rw (lent-splice s from (to - from) ys h k, p .from-is, ← z)
 
     stays : w ≡ true → b ≡ true
-    unfolding write flagAfter
+    unfolding write store flagAfter
     stays z = ap (λ (r : Ring). r .wrapped) e ∙ rw z
 
     pub lent-write : RowWritten s (putMid from (to - from) s ys) i es t w b

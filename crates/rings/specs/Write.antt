@@ -12,7 +12,7 @@ use lib.Dec.{leb, ltb, eqb}
 use lib.ListN.{length}
 use Rattle.model.specs.Bytes.{get, put}
 use Rattle.model.specs.Layout.{stampsBehind, stampsAt, columnBehind, columnAt}
-use Rattle.model.specs.Ring.{Ring, ColumnValue, slots, series, cursor, stampAt, cellAt, stamp, cell, slotOf, putCells, moveCursor, flagAfter, write}
+use Rattle.model.specs.Ring.{Ring, ColumnValue, slots, series, cursor, stampAt, cellAt, stamp, cell, slotOf, putCells, moveCursor, flagAfter, store, cellsFor, write}
 use Rattle.laws.specs.Tests.{yes-le, yes-lt, yes-eq, no-lt, no-eq}
 use Rattle.laws.specs.Bytes.{before, behind, get-put, length-put}
 use Rattle.laws.specs.Slab.{Whole, cellAt-high, stampAt-high, inside-cell, inside-stamp, slots-put, series-put, cell-put-cell, stamp-put-cell, stamp-put-stamp, cell-put-stamp, stamp-same, cell-same, cursor-same, stamp-cursor, cell-cursor}
@@ -118,7 +118,7 @@ cells-put (e ∷ es) s i wh hi f c j hj =
     cells-put es u i w₁ (rw n₁ hi) (rw m₁ (f .2)) c j (rw n₁ hj)
     ∙ sets-same (cell u) (setCell (cell s) i d v) i es c j (one-cell s i d v c j wh hi (f .0) (f .1) hj)
 
--- ---- the write
+-- ---- the store of any cells
 
 -- the slot moves the cursor there, or the flag does
 pub cursor-moves : (w : Bool) (i k : ℕ) → (w || ltb i k) || leb k i ≡ true
@@ -129,15 +129,15 @@ cursor-moves false i k = go (decLt i k)
     go (yes p) = rw (yes-lt i k p)
     go (no p) = rw (no-lt i k (omega arith), yes-le k i (omega arith))
 
--- so a write always stores the cursor
-pub write-is : (r : Ring) (es : List ColumnValue) (t : ℕ)
-    → write r es t .slab ≡ put 4 (putCells (put 8 (r .slab) (stampAt (r .slab) (slotOf (r .slab) t)) t) (slotOf (r .slab) t) es) 32 (slotOf (r .slab) t)
-unfolding write flagAfter moveCursor
-write-is r es t = rw (cursor-moves (r .wrapped) (slotOf (r .slab) t) (cursor (r .slab)))
+-- so the cursor is always stored
+pub store-is : (r : Ring) (es : List ColumnValue) (t : ℕ)
+    → store r es t .slab ≡ put 4 (putCells (put 8 (r .slab) (stampAt (r .slab) (slotOf (r .slab) t)) t) (slotOf (r .slab) t) es) 32 (slotOf (r .slab) t)
+unfolding store flagAfter moveCursor
+store-is r es t = rw (cursor-moves (r .wrapped) (slotOf (r .slab) t) (cursor (r .slab)))
 
-pub flag-is : (r : Ring) (es : List ColumnValue) (t : ℕ) → write r es t .wrapped ≡ (r .wrapped || ltb (slotOf (r .slab) t) (cursor (r .slab)))
-unfolding write flagAfter
-flag-is r es t = refl
+pub store-flag : (r : Ring) (es : List ColumnValue) (t : ℕ) → store r es t .wrapped ≡ (r .wrapped || ltb (slotOf (r .slab) t) (cursor (r .slab)))
+unfolding store flagAfter
+store-flag r es t = refl
 
 -- ---- what holds of u after any values went to slot i of s: length, header but for the cursor, directory
 
@@ -147,8 +147,8 @@ pub record Kept (s : List ℕ) (i : ℕ) (u : List ℕ) : Type 0 where
   pub directory : (w p : ℕ) → 36 ≤ p → p + w ≤ stampsAt (series s) → get w u p ≡ get w s p
   pub cursor-is : cursor u ≡ i
 
-pub kept : (r : Ring) (es : List ColumnValue) (t : ℕ) → 64 ≤ length (r .slab) → slotOf (r .slab) t < 2 ^ 32 → Kept (r .slab) (slotOf (r .slab) t) (write r es t .slab)
-kept r es t hl hi =
+pub store-kept : (r : Ring) (es : List ColumnValue) (t : ℕ) → 64 ≤ length (r .slab) → slotOf (r .slab) t < 2 ^ 32 → Kept (r .slab) (slotOf (r .slab) t) (store r es t .slab)
+store-kept r es t hl hi =
     let s = r .slab in
     let i = slotOf s t in
     let o = stampAt s i in
@@ -157,7 +157,7 @@ kept r es t hl hi =
     let l₁ : length s₁ ≡ length s = length-put 8 s o t in
     let k = cells-only es s₁ i in
     let s₂ = putCells s₁ i es in
-    rw (write-is r es t) (record {
+    rw (store-is r es t) (record {
       length-is = length-put 4 s₂ 32 i ∙ k .length-is ∙ l₁;
       header = λ w p h. get-put w 4 s₂ p 32 i (before h) ∙ k .front w p (rw m₁ (omega (arith, stamps-high s))) ∙ get-put w 8 s p o t (before (omega (arith, stampAt-high s i)));
       directory = λ w p g h. get-put w 4 s₂ p 32 i (behind g) ∙ k .front w p (rw m₁ h) ∙ get-put w 8 s p o t (before (omega (arith, stamp-behind s i)));
@@ -171,16 +171,16 @@ pub record Elsewhere (s : List ℕ) (i t : ℕ) (u : List ℕ) : Type 0 where
   pub stamp-other : (j : ℕ) → j < slots s → j ≢ i → stamp u j ≡ stamp s j
   pub cell-other : (c j : ℕ) → j < slots s → j ≢ i → cell u c j ≡ cell s c j
 
-pub elsewhere : (r : Ring) (es : List ColumnValue) (t : ℕ) → Whole (r .slab) → slotOf (r .slab) t < slots (r .slab) → t < 2 ^ 64
-    → Elsewhere (r .slab) (slotOf (r .slab) t) t (write r es t .slab)
-elsewhere r es t wh hi ht =
+pub store-elsewhere : (r : Ring) (es : List ColumnValue) (t : ℕ) → Whole (r .slab) → slotOf (r .slab) t < slots (r .slab) → t < 2 ^ 64
+    → Elsewhere (r .slab) (slotOf (r .slab) t) t (store r es t .slab)
+store-elsewhere r es t wh hi ht =
     let s = r .slab in
     let i = slotOf s t in
     let s₁ = put 8 s (stampAt s i) t in
     let n₁ : slots s₁ ≡ slots s = slots-put s (stampAt s i) t (stampAt-high s i) in
     let k = cells-only es s₁ i in
     let s₂ = putCells s₁ i es in
-    rw (write-is r es t) (record {
+    rw (store-is r es t) (record {
       stamp-is = stamp-cursor s₂ i i ∙ k .stamps i (rw n₁ hi) ∙ stamp-same s i t (inside-stamp s i wh hi) ht;
       stamp-other = λ j hj ne. stamp-cursor s₂ i j ∙ k .stamps j (rw n₁ hj) ∙ stamp-put-stamp s i t j ne;
       cell-other = λ c j hj ne. cell-cursor s₂ i c j ∙ k .cell-other (rw n₁ hi) c j (rw n₁ hj) ne ∙ cell-put-stamp s i t c j hi;
@@ -194,9 +194,9 @@ pub record Wrote (s : List ℕ) (i t : ℕ) (es : List ColumnValue) (u : List �
   pub stamp-other : (j : ℕ) → j < slots s → j ≢ i → stamp u j ≡ stamp s j
   pub cells : (c j : ℕ) → j < slots s → cell u c j ≡ setCells (cell s) i es c j
 
-pub wrote : (r : Ring) (es : List ColumnValue) (t : ℕ) → Whole (r .slab) → slots (r .slab) < 2 ^ 32 → slotOf (r .slab) t < slots (r .slab) → t < 2 ^ 64
-    → Fit (series (r .slab)) es → Wrote (r .slab) (slotOf (r .slab) t) t es (write r es t .slab)
-wrote r es t wh hn hi ht f =
+pub store-wrote : (r : Ring) (es : List ColumnValue) (t : ℕ) → Whole (r .slab) → slots (r .slab) < 2 ^ 32 → slotOf (r .slab) t < slots (r .slab) → t < 2 ^ 64
+    → Fit (series (r .slab)) es → Wrote (r .slab) (slotOf (r .slab) t) t es (store r es t .slab)
+store-wrote r es t wh hn hi ht f =
     let s = r .slab in
     let i = slotOf s t in
     let o = stampAt s i in
@@ -205,12 +205,37 @@ wrote r es t wh hn hi ht f =
     let m₁ : series s₁ ≡ series s = series-put s o t (stampAt-high s i) in
     let w₁ : Whole s₁ = length-put 8 s o t ∙ wh ∙ rw (n₁, m₁) refl in
     let s₂ = putCells s₁ i es in
-    let k = elsewhere r es t wh hi ht in
+    let k = store-elsewhere r es t wh hi ht in
     let far : 64 ≤ length s = omega (arith, inside-stamp s i wh hi, stampAt-high s i) in
     record {
-      rest = kept r es t far (omega arith);
+      rest = store-kept r es t far (omega arith);
       stamp-is = k .stamp-is;
       stamp-other = k .stamp-other;
-      cells = λ c j hj. rw (write-is r es t) (cell-cursor s₂ i c j ∙ cells-put es s₁ i w₁ (rw n₁ hi) (rw m₁ f) c j (rw n₁ hj)
+      cells = λ c j hj. rw (store-is r es t) (cell-cursor s₂ i c j ∙ cells-put es s₁ i w₁ (rw n₁ hi) (rw m₁ f) c j (rw n₁ hj)
           ∙ sets-same (cell s₁) (cell s) i es c j (cell-put-stamp s i t c j hi));
     }
+
+-- ---- the write: it stores the cells for it
+
+pub write-is : (r : Ring) (es : List ColumnValue) (t : ℕ)
+    → write r es t .slab ≡ put 4 (putCells (put 8 (r .slab) (stampAt (r .slab) (slotOf (r .slab) t)) t) (slotOf (r .slab) t) es) 32 (slotOf (r .slab) t)
+unfolding write cellsFor
+write-is r es t = store-is r es t
+
+pub flag-is : (r : Ring) (es : List ColumnValue) (t : ℕ) → write r es t .wrapped ≡ (r .wrapped || ltb (slotOf (r .slab) t) (cursor (r .slab)))
+unfolding write
+flag-is r es t = store-flag r (cellsFor (r .slab) es t) t
+
+pub kept : (r : Ring) (es : List ColumnValue) (t : ℕ) → 64 ≤ length (r .slab) → slotOf (r .slab) t < 2 ^ 32 → Kept (r .slab) (slotOf (r .slab) t) (write r es t .slab)
+unfolding write
+kept r es t hl hi = store-kept r (cellsFor (r .slab) es t) t hl hi
+
+pub elsewhere : (r : Ring) (es : List ColumnValue) (t : ℕ) → Whole (r .slab) → slotOf (r .slab) t < slots (r .slab) → t < 2 ^ 64
+    → Elsewhere (r .slab) (slotOf (r .slab) t) t (write r es t .slab)
+unfolding write
+elsewhere r es t wh hi ht = store-elsewhere r (cellsFor (r .slab) es t) t wh hi ht
+
+pub wrote : (r : Ring) (es : List ColumnValue) (t : ℕ) → Whole (r .slab) → slots (r .slab) < 2 ^ 32 → slotOf (r .slab) t < slots (r .slab) → t < 2 ^ 64
+    → Fit (series (r .slab)) es → Wrote (r .slab) (slotOf (r .slab) t) t es (write r es t .slab)
+unfolding write cellsFor
+wrote r es t wh hn hi ht f = store-wrote r es t wh hn hi ht f
