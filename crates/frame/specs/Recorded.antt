@@ -2,15 +2,14 @@
 -- image and a column of the schema. Assumes nothing.
 use Prim.Native.Nat.{ℕ, zero, suc, _^_, _<_}
 use mathlib.Core.Path.{_≡_, refl}
-use mathlib.Core.Bool.{true, not}
+use mathlib.Core.Bool.{true}
 use mathlib.Core.List.{List, [], _∷_}
 use lib.Dec.{ltb}
-use Rattle.model.specs.Image.{unless, schemas, openCheck}
-use Rattle.model.specs.Ring.{isInfinite}
+use Rattle.model.specs.Image.{schemas, openCheck}
 use Rattle.model.specs.Lent.{Lent, tiers}
 use Rattle.model.specs.Record.{Entry, seriesOf, handleOk, stampOk, recordCheck, everyEntry, batchCheck, entriesOf, writeSome, writeSchemas}
 use Rattle.laws.specs.Tests.{and-left, and-right, lt-is}
-use Rattle.frame.specs.Checks.{first-zero, unless-zero}
+use Rattle.laws.specs.Checks.{each-zero, unless-zero}
 
 pub stamp-low : (t : ℕ) → stampOk t ≡ true → t < 2 ^ 63
 unfolding stampOk
@@ -34,24 +33,17 @@ handle-in l k c h =
 pub record-zero : (l : Lent) (k c v t : ℕ) → recordCheck l k c v t ≡ 0 → (openCheck (l .image) ≡ 0) × (handleOk l k c ≡ true) × (t < 2 ^ 63) × (0 < t)
 unfolding recordCheck
 record-zero l k c v t h =
-    let p = first-zero (openCheck (l .image)) (unless (handleOk l k c) 11 ∷ unless (not (isInfinite v)) 12 ∷ unless (stampOk t) 13 ∷ []) h in
-    let q = first-zero (unless (handleOk l k c) 11) (unless (not (isInfinite v)) 12 ∷ unless (stampOk t) 13 ∷ []) (p .1) in
-    let r = first-zero (unless (not (isInfinite v)) 12) (unless (stampOk t) 13 ∷ []) (q .1) in
-    let s = first-zero (unless (stampOk t) 13) [] (r .1) in
-    let u = unless-zero (stampOk t) 12 (s .0) in
-    (p .0, unless-zero (handleOk l k c) 10 (q .0), stamp-low t u, stamp-pos t u)
+    let z = each-zero _ h in
+    let u = unless-zero _ (z 3) in
+    (z 0, unless-zero _ (z 1), stamp-low t u, stamp-pos t u)
 
 pub batch-zero : (l : Lent) (x : Entry) (xs : List Entry) (t : ℕ) → batchCheck l (x ∷ xs) t ≡ 0
     → (openCheck (l .image) ≡ 0) × (everyEntry (λ x. handleOk l (x .schema) (x .column)) (x ∷ xs) ≡ true) × (t < 2 ^ 63) × (0 < t)
 unfolding batchCheck
 batch-zero l x xs t h =
-    let hs = everyEntry (λ x. handleOk l (x .schema) (x .column)) (x ∷ xs) in
-    let is = everyEntry (λ x. not (isInfinite (x .value))) (x ∷ xs) in
-    let p = first-zero (openCheck (l .image)) (unless hs 11 ∷ unless (stampOk t) 13 ∷ unless is 12 ∷ []) h in
-    let q = first-zero (unless hs 11) (unless (stampOk t) 13 ∷ unless is 12 ∷ []) (p .1) in
-    let r = first-zero (unless (stampOk t) 13) (unless is 12 ∷ []) (q .1) in
-    let u = unless-zero (stampOk t) 12 (r .0) in
-    (p .0, unless-zero hs 10 (q .0), stamp-low t u, stamp-pos t u)
+    let z = each-zero _ h in
+    let u = unless-zero _ (z 2) in
+    (z 0, unless-zero _ (z 1), stamp-low t u, stamp-pos t u)
 
 -- ---- a batch without entries writes nothing
 

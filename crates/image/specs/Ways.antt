@@ -10,9 +10,10 @@ use lib.Dec.{eqb, leb}
 use borrow.Author.Tests.{le-leb, lt-leb, leb-true}
 use Rattle.model.specs.declared.Row.{Row}
 use Rattle.model.specs.Bytes.{get}
-use Rattle.model.specs.Image.{first, unless, shape, blank, schemas, rowCount, rows, rowsFrom, rowAt, rowPlace, rowLength, totalLength, imageLength, slabsEnd, placed, slabOf, sound, soundAll, schemaChecks, layoutCheck, planCheck, openCheck}
+use Rattle.model.specs.Image.{first, unless, shape, blank, schemas, rowCount, rowsFrom, rowAt, rowPlace, rowLength, totalLength, imageLength, slabsEnd, placed, slabOf, sound, soundAll, schemaChecks, layoutCheck, planCheck, openCheck}
 use Rattle.laws.specs.Tests.{and-left}
-use Rattle.frame.specs.Checks.{first-zero, unless-zero, Shape, shape-parts}
+use Rattle.laws.specs.Checks.{each-zero, unless-zero}
+use Rattle.frame.specs.Checks.{Shape, shape-parts}
 use Rattle.frame.specs.Rows.{Place, placed-at, slabsEnd-suc, slabsEnd-le}
 use Rattle.rows.specs.Tests.{and-assoc, and-true}
 use Rattle.rows.specs.First.{first-stop, first-on, first-one, unless-on, unless-stop}
@@ -46,9 +47,7 @@ module _ (s : List ℕ) where
 
   pub layout-fits : layoutCheck s ≡ 0 → imageLength s ≤ 1099511627776
   unfolding layoutCheck
-  layout-fits e =
-      let a = first-zero (schemaChecks 0 (schemas s) (rows s)) (unless (leb (imageLength s) 1099511627776) 8 ∷ []) e in
-      leb-true _ _ (unless-zero (leb (imageLength s) 1099511627776) 7 (first-zero _ [] (a .1) .0))
+  layout-fits e = leb-true _ _ (unless-zero _ (each-zero _ e 1))
 
   -- ---- a plan
 
@@ -68,8 +67,8 @@ module _ (s : List ℕ) where
   pub plan-parts : planCheck s ≡ 0 → (shape s ≡ true) × (imageLength s ≤ 1099511627776)
   unfolding planCheck
   plan-parts e =
-      let a = first-zero (unless (shape s && blank s) 1) (layoutCheck s ∷ []) e in
-      (and-left (shape s) (blank s) (unless-zero (shape s && blank s) 0 (a .0)), layout-fits (first-zero (layoutCheck s) [] (a .1) .0))
+      let z = each-zero _ e in
+      (and-left (shape s) (blank s) (unless-zero _ (z 0)), layout-fits (z 1))
 
   -- ---- an image
 

@@ -4,17 +4,15 @@ use Prim.Native.Nat.{ℕ, zero, suc, _+_, _≤_, _<_}
 use native.Mathlib.Omega.{arith}
 use mathlib.Core.Path.{_≡_, refl, ap, _∙_}
 use mathlib.Core.Bool.{true, false}
-use mathlib.Core.List.{[], _∷_}
-use lib.Dec.{ltb}
 use lib.ListN.{length}
-use Rattle.model.specs.Image.{unless, rows, tiersOf, openCheck}
+use Rattle.model.specs.Image.{rows, tiersOf, openCheck}
 use Rattle.model.specs.Read.{full, pointsOf}
 use Rattle.model.specs.Lent.{Lent, ring, row, rowNo, tiers, firstRow}
 use Rattle.model.specs.Record.{seriesOf, handleOk}
 use Rattle.model.specs.Query.{Answered, found, queryCheck, autoCheck, choose, answered, queryOn, query, queryAuto}
 use Rattle.laws.specs.Tests.{lt-is}
+use Rattle.laws.specs.Checks.{each-zero, unless-zero}
 use Rattle.rings.specs.Points.{points, reader-points}
-use Rattle.frame.specs.Checks.{first-zero, unless-zero}
 use Rattle.frame.specs.Recorded.{handle-in}
 use Rattle.frame.specs.Good.{good-open, slab-sound}
 use Rattle.frame.specs.Tiers.{tier-row, some-tier}
@@ -25,20 +23,14 @@ use Rattle.readings.specs.Choice.{covers, choice-in, some-covers, none-f
 pub query-zero : (l : Lent) (k c j start end : ℕ) → queryCheck l k c j start end ≡ 0 → (openCheck (l .image) ≡ 0) × (handleOk l k c ≡ true) × (j < length (tiers l k))
 unfolding queryCheck
 query-zero l k c j start end e =
-    let x = unless (ltb j (length (tiers l k))) 14 in
-    let y = unless (ltb start end) 15 in
-    let p = first-zero (openCheck (l .image)) (unless (handleOk l k c) 11 ∷ x ∷ y ∷ []) e in
-    let q = first-zero (unless (handleOk l k c) 11) (x ∷ y ∷ []) (p .1) in
-    let t = first-zero x (y ∷ []) (q .1) in
-    (p .0, unless-zero (handleOk l k c) 10 (q .0), lt-is j (length (tiers l k)) (unless-zero (ltb j (length (tiers l k))) 13 (t .0)))
+    let z = each-zero _ e in
+    (z 0, unless-zero _ (z 1), lt-is j (length (tiers l k)) (unless-zero _ (z 2)))
 
 pub auto-zero : (l : Lent) (k c start end : ℕ) → autoCheck l k c start end ≡ 0 → (openCheck (l .image) ≡ 0) × (handleOk l k c ≡ true)
 unfolding autoCheck
 auto-zero l k c start end e =
-    let y = unless (ltb start end) 15 in
-    let p = first-zero (openCheck (l .image)) (unless (handleOk l k c) 11 ∷ y ∷ []) e in
-    let q = first-zero (unless (handleOk l k c) 11) (y ∷ []) (p .1) in
-    (p .0, unless-zero (handleOk l k c) 10 (q .0))
+    let z = each-zero _ e in
+    (z 0, unless-zero _ (z 1))
 
 -- ---- what it answers
 

@@ -4,7 +4,7 @@ use Prim.Native.Nat.{ℕ, zero, suc, _+_, _-_, _^_, _≤_, _<_}
 use native.Mathlib.Omega.{arith}
 use native.Mathlib.Decide.{ℕ-discrete}
 use mathlib.Core.Path.{_≡_, refl, sym, ap, subst}
-use mathlib.Core.Bool.{Bool, true, false, not, _&&_}
+use mathlib.Core.Bool.{Bool, true, false, _&&_}
 use mathlib.Core.List.{List, [], _∷_}
 use lib.Dec.{ltb, eqb}
 use lib.ListN.{length}
@@ -17,16 +17,17 @@ use Rattle.model.specs.declared.WindowAnswer.{WindowAnswer}
 use Rattle.model.specs.declared.WindowAnswer.the-variants.{Empty, Number, NothingFinite}
 use Rattle.model.specs.Words.{functionNo}
 use Rattle.model.specs.Layout.{freshValue}
-use Rattle.model.specs.Image.{schemas, rowCount, rowAt, rowSlots, sound, unless, openCheck}
-use Rattle.model.specs.Ring.{Ring, ColumnValue, slots, isInfinite, wrapFlag, write, newest}
+use Rattle.model.specs.Image.{schemas, rowCount, rowAt, rowSlots, sound, openCheck}
+use Rattle.model.specs.Ring.{Ring, ColumnValue, slots, wrapFlag, write, newest}
 use Rattle.model.specs.Window.{Job, windowAnswer}
 use Rattle.model.specs.Lent.{Lent, row, ring, withRing, rowNo, opening}
-use Rattle.model.specs.Record.{Entry, stampOk, writeTo, recordCheck, recordOn, batchCheck, entriesOf, writeSome, writeSchemas, batchOn}
+use Rattle.model.specs.Record.{Entry, writeTo, recordCheck, recordOn, batchCheck, entriesOf, writeSome, writeSchemas, batchOn}
 use Rattle.model.specs.Consolidate.{Filled, writeCheck, writeOn, writeBits, writeAnswer, unlessRefused, fillWindow, fill, Run, refuseRun, stampsBelow, orZero, windows, jobOf, filled}
 use Rattle.model.specs.Consolidate.{withMark, closePair, pairWith, pairBy, pair, pairIf, pairs, runOn, run}
 use Rattle.model.specs.Store.{Call, Deed, reads, records, recordsAll, runs, opens, deed, doing, finished, call, after}
+use Rattle.laws.specs.Checks.{each-zero, unless-zero}
 use Rattle.rings.specs.Sound.{Sound, sound-write}
-use Rattle.frame.specs.Checks.{first-zero, unless-zero, sound-keeps}
+use Rattle.frame.specs.Checks.{sound-keeps}
 use Rattle.frame.specs.Recorded.{stamp-low, stamp-pos, handle-in, record-zero, batch-zero, batch-none}
 use Rattle.frame.specs.Good.{Good, Kept, setMark, length-sound, slab-sound, count-kept, schemas-kept}
 use Rattle.frame.specs.Frame.{count-with, ring-same, ring-other, length-write, sound-written}
@@ -39,9 +40,8 @@ use Rattle.frame.specs.Calls.{opened-image, opened-flags, ring-opened}
 write-zero : (v w : ℕ) → writeCheck v w ≡ 0 → (0 < w) × (w < 2 ^ 63)
 unfolding writeCheck
 write-zero v w h =
-    let a = first-zero (unless (not (isInfinite v)) 12) (unless (stampOk w) 13 ∷ []) h in
-    let b = unless-zero (stampOk w) 12 (first-zero (unless (stampOk w) 13) [] (a .1) .0) in
-    (stamp-pos w b, stamp-low w b)
+    let z = unless-zero _ (each-zero _ h 1) in
+    (stamp-pos w z, stamp-low w z)
 
 -- a row that is the same but for its mark has the same sizes
 same-sizes : (p q : Row) → setMark p 0 ≡ setMark q 0 → (rowSlots p ≡ rowSlots q) × (p .series ≡ q .series)

@@ -8,7 +8,7 @@ use Rattle.rows.specs.declared.Checked.{Checked}
 use Rattle.rows.specs.declared.Checked.the-variants.{Good, Refused}
 use Rattle.model.specs.declared.Refusal.{Refusal}
 use Rattle.model.specs.Image.{unless}
-use Rattle.frame.specs.Checks.{unless-zero}
+use Rattle.laws.specs.Checks.{unless-zero}
 use Rattle.rows.specs.First.{refusal-no}
 
 -- 0, or the refusal's number
@@ -36,7 +36,7 @@ not-good {w = w} e z = refusal-no w (ap checkedNo (sym e) ∙ z)
 
 -- the same where the check is one test
 pub passes : {c : Checked} {r q : Row} (b : Bool) (n : ℕ) → Checks c r (unless b (suc n)) → c ≡ Good q → (b ≡ true) × (q ≡ r)
-passes b n h e = let g = good h e in (unless-zero b n (g .0), g .1)
+passes b n h e = let g = good h e in (unless-zero n (g .0), g .1)
 
 pub fails : {c : Checked} {r : Row} (b : Bool) (n : ℕ) {w : Refusal} → Checks c r (unless b n) → c ≡ Refused w → b ≡ false
 unfolding unless

@@ -2,17 +2,14 @@
 use Prim.Native.Nat.{ℕ, zero, suc}
 use native.Mathlib.Omega.{arith}
 use mathlib.Core.Path.{_≡_, refl, sym, ap, _∙_}
-use mathlib.Core.Bool.{Bool, true, false}
+use mathlib.Core.Bool.{Bool, false}
 use mathlib.Core.List.{List, [], _∷_}
 use Rattle.model.specs.declared.Refusal.{Refusal}
 use Rattle.model.specs.declared.Outcome.{Outcome}
 use Rattle.model.specs.declared.Outcome.the-variants as O
 use Rattle.model.specs.Words.{numberOf, number-pos, outcomeNo}
 use Rattle.model.specs.Image.{unless, first}
-
-pub unless-on : {b : Bool} (n : ℕ) → b ≡ true → unless b n ≡ 0
-unfolding unless
-unless-on n e = rw e
+pub use Rattle.laws.specs.Checks.{unless-on}
 
 pub unless-stop : {b : Bool} (n : ℕ) → b ≡ false → unless b n ≡ n
 unfolding unless

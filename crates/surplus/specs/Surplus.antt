@@ -8,13 +8,13 @@ use mathlib.Core.List.{List, [], _∷_, _++_}
 use lib.ListN.{length, take, drop}
 use lib.Dec.{leb, eqb}
 use Rattle.laws.specs.Tests.{yes-le, eq-is, split3}
+use Rattle.laws.specs.Checks.{each-zero, unless-zero}
 use Rattle.model.specs.declared.Row.{Row}
 use Rattle.model.specs.Bytes.{part}
 use Rattle.model.specs.Image.{unless, first, rowCount, totalLength, rowPlace, rowAt, rows, rowsFrom, rowLength, slabsEnd, imageLength, shape, blank, layoutCheck, placed, slabOf, sound, soundAll, planCheck, createCheck, openCheck, freshImage}
 use Rattle.model.specs.Ring.{wrapFlag}
 use Rattle.model.specs.Lent.{Lent, wrapFlags, openOn, opening, createOn, creation}
 use Rattle.layout.specs.Ends.{ends-ge}
-use Rattle.frame.specs.Checks.{first-zero, unless-zero}
 use Rattle.surplus.specs.Agree.{Agree, part-same, count-same, total-same, rows-same, length-same, layout-same, blank-same, shape-same}
 
 head-in : (s : List ℕ) → rowPlace (rowCount s) ≤ imageLength s
@@ -63,10 +63,7 @@ places s e =
     let x = eqb (totalLength s) (imageLength s) in
     let y = placed (rowPlace (rowCount s)) (rows s) in
     let z = leb (imageLength s) (length s) in
-    let w = unless (soundAll s (rows s)) 10 ∷ [] in
-    let b = first-zero (unless (shape s) 1) (layoutCheck s ∷ unless (x && y && z) 1 ∷ w) e in
-    let c = first-zero (layoutCheck s) (unless (x && y && z) 1 ∷ w) (b .1) in
-    split3 x y z (unless-zero (x && y && z) 0 (first-zero (unless (x && y && z) 1) w (c .1) .0)) .1
+    split3 x y z (unless-zero _ (each-zero _ e 2)) .1
 
 -- two slices that hold the same image
 pub record SameImage (s t : List ℕ) : Type 0 where
