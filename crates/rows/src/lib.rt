@@ -31,18 +31,18 @@ pub fn row_at(s: &[u8], i: usize) -> model::Row
     requires { ⌜ 32 + 64 * i + 64 ≤ length (now s) ⌝ }
     ensures { λ r. ⌜ r ≡ rowAt (now (s .entry)) i ⌝ }
 {
-    let at = 32 + 64 * i;
+    let at = format::HEADER + format::ROW * i;
     model::Row {
         schema: field::get_u32(s, at) as u32,
-        tier: field::get_u32(s, at + 4) as u32,
-        interval: field::get_u64(s, at + 8),
-        retention: field::get_u64(s, at + 16),
-        function: field::get_u32(s, at + 24) as u32,
-        series: field::get_u32(s, at + 28) as u32,
-        offset: field::get_u64(s, at + 32),
-        len: field::get_u64(s, at + 40),
-        mark: field::get_u64(s, at + 48),
-        hash: field::get_u64(s, at + 56),
+        tier: field::get_u32(s, at + format::ROW_TIER) as u32,
+        interval: field::get_u64(s, at + format::ROW_INTERVAL),
+        retention: field::get_u64(s, at + format::ROW_RETENTION),
+        function: field::get_u32(s, at + format::ROW_FUNCTION) as u32,
+        series: field::get_u32(s, at + format::ROW_SERIES) as u32,
+        offset: field::get_u64(s, at + format::ROW_OFFSET),
+        len: field::get_u64(s, at + format::ROW_LENGTH),
+        mark: field::get_u64(s, at + format::ROW_MARK),
+        hash: field::get_u64(s, at + format::ROW_HASH),
     }
 }
 
@@ -51,13 +51,13 @@ fn header_good(len: usize, magic: u64, version: u64, schemas: u64, rows: u64, ze
     requires { ⌜ rows < 4294967296 ⌝ }
     ensures { λ r. ⌜ r ≡ header len magic version schemas rows zero ⌝ }
 {
-    (magic == 0x4f545352)
-        & (version == 1)
+    (magic == format::RSTO)
+        & (version == format::VERSION)
         & (1 <= schemas)
-        & (schemas <= 8)
-        & (rows <= 32)
+        & (schemas <= format::SCHEMAS)
+        & (rows <= format::ROWS)
         & (zero == 0)
-        & (32 + 64 * rows <= (len as u64))
+        & (format::HEADER as u64 + format::ROW as u64 * rows <= (len as u64))
 }
 
 // q may stand right after p.
@@ -74,7 +74,7 @@ fn row_follows(p: model::Row, q: model::Row) -> bool
 fn row_shaped(schemas: u64, r: model::Row) -> bool
     ensures { λ b. ⌜ b ≡ rowShape schemas r ⌝ }
 {
-    ((r.schema as u64) < schemas) & (r.function <= 6) & (r.mark < 0x8000_0000_0000_0000)
+    ((r.schema as u64) < schemas) & (r.function <= format::FUNCTIONS) & (r.mark < format::TOP)
 }
 
 fn row_blank(r: model::Row) -> bool
@@ -130,14 +130,14 @@ pub fn rows_good(s: &[u8], n: usize, schemas: u64) -> bool
 pub fn is_shaped(s: &[u8]) -> bool
     ensures { λ r. ⌜ r ≡ shape (now (s .entry)) ⌝ }
 {
-    if s.len() < 32 {
+    if s.len() < format::HEADER {
         return false;
     }
-    let magic = field::get_u32(s, 0);
-    let version = field::get_u32(s, 4);
-    let schemas = field::get_u32(s, 8);
-    let n = field::get_u32(s, 12);
-    let zero = field::get_u64(s, 24);
+    let magic = field::get_u32(s, format::HEADER_MAGIC);
+    let version = field::get_u32(s, format::HEADER_VERSION);
+    let schemas = field::get_u32(s, format::HEADER_SCHEMAS);
+    let n = field::get_u32(s, format::HEADER_ROWS);
+    let zero = field::get_u64(s, format::HEADER_ZERO);
     let head = header_good(s.len(), magic, version, schemas, n, zero);
     if !head {
         return false;
@@ -165,8 +165,8 @@ pub fn is_blank(s: &[u8]) -> bool
     requires { ⌜ shape (now s) ≡ true ⌝ }
     ensures { λ r. ⌜ r ≡ blank (now (s .entry)) ⌝ }
 {
-    let total = field::get_u64(s, 16);
-    let n = field::get_u32(s, 12);
+    let total = field::get_u64(s, format::HEADER_TOTAL);
+    let n = field::get_u32(s, format::HEADER_ROWS);
     let rows = rows_blank(s, n as usize);
     (total == 0) & rows
 }
