@@ -13,11 +13,11 @@ fn put_low(row: &mut [u8], r: model::Row)
     requires { ⌜ length (now row) ≡ 64 ⌝ }
     ensures { λ _. ⌜ now (row .exit) ≡ splice (now (row .entry)) 0 (bytes 4 (r .schema) ++ bytes 4 (r .tier) ++ bytes 8 (r .interval) ++ bytes 8 (r .retention) ++ bytes 4 (r .function)) ⌝ }
 {
-    field::put_u32(row, 0, r.schema as u64);
-    field::put_u32(row, 4, r.tier as u64);
-    field::put_u64(row, 8, r.interval);
-    field::put_u64(row, 16, r.retention);
-    field::put_u32(row, 24, r.function as u64);
+    field::put_u32(row, format::ROW_SCHEMA, r.schema as u64);
+    field::put_u32(row, format::ROW_TIER, r.tier as u64);
+    field::put_u64(row, format::ROW_INTERVAL, r.interval);
+    field::put_u64(row, format::ROW_RETENTION, r.retention);
+    field::put_u32(row, format::ROW_FUNCTION, r.function as u64);
 }
 
 // A row's bytes.
@@ -26,11 +26,11 @@ fn put_row(row: &mut [u8], r: model::Row)
     ensures { λ _. ⌜ now (row .exit) ≡ rowBytes r ⌝ }
 {
     put_low(row, r);
-    field::put_u32(row, 28, r.series as u64);
-    field::put_u64(row, 32, r.offset);
-    field::put_u64(row, 40, r.len);
-    field::put_u64(row, 48, r.mark);
-    field::put_u64(row, 56, r.hash);
+    field::put_u32(row, format::ROW_SERIES, r.series as u64);
+    field::put_u64(row, format::ROW_OFFSET, r.offset);
+    field::put_u64(row, format::ROW_LENGTH, r.len);
+    field::put_u64(row, format::ROW_MARK, r.mark);
+    field::put_u64(row, format::ROW_HASH, r.hash);
 }
 
 // A plan's row with its slab's place.
@@ -58,14 +58,14 @@ fn put_rows(plan: &[u8], n: usize, image: &mut [u8])
     requires { ⌜ (slabsEnd (32 + 64 * n) (rowsTo (now plan) n 0) ≤ 1099511627776) × (32 + 64 * n ≤ length (now image)) ⌝ }
     ensures { λ _. ⌜ now (image .exit) ≡ splice (now (image .entry)) 32 (allRows (placedRows (32 + 64 * n) (rowsTo (now (plan .entry)) n 0))) ⌝ }
 {
-    let mut at: u64 = 32 + 64 * (n as u64);
+    let mut at: u64 = format::HEADER as u64 + format::ROW as u64 * (n as u64);
     let mut i = 0;
     while i < n {
         let r = rows::row_at(plan, i);
         let len = layout::row_length(r);
         let q = placed_row(r, at, len);
-        let from = 32 + 64 * i;
-        let end = from + 64;
+        let from = format::HEADER + format::ROW * i;
+        let end = from + format::ROW;
         put_row(&mut image[from..end], q);
         at = at + len;
         i += 1;
@@ -78,7 +78,7 @@ fn put_slabs(plan: &[u8], n: usize, image: &mut [u8])
     requires { ⌜ (slabsEnd (32 + 64 * n) (rowsTo (now plan) n 0) ≤ 1099511627776) × (slabsEnd (32 + 64 * n) (rowsTo (now plan) n 0) ≤ length (now image)) ⌝ }
     ensures { λ _. ⌜ now (image .exit) ≡ splice (now (image .entry)) (32 + 64 * n) (freshSlabs (rowsTo (now (plan .entry)) n 0)) ⌝ }
 {
-    let mut at = 32 + 64 * n;
+    let mut at = format::HEADER + format::ROW * n;
     let mut i = 0;
     while i < n {
         let r = rows::row_at(plan, i);
@@ -103,7 +103,7 @@ fn copy_head(plan: &[u8], image: &mut [u8])
     ensures { λ _. ⌜ now (image .exit) ≡ splice (now (image .entry)) 0 (take 16 (now (plan .entry))) ⌝ }
 {
     let mut i = 0;
-    while i < 16 {
+    while i < format::HEADER_TOTAL {
         image[i] = plan[i];
         i += 1;
     }
@@ -115,11 +115,11 @@ pub fn put_image(plan: &[u8], image: &mut [u8])
     requires { ⌜ (imageLength (now plan) ≤ 1099511627776) × (imageLength (now plan) ≤ length (now image)) ⌝ }
     ensures { λ _. ⌜ now (image .exit) ≡ freshImage (now (plan .entry)) ++ drop (imageLength (now (plan .entry))) (now (image .entry)) ⌝ }
 {
-    let n = field::get_u32(plan, 12) as usize;
+    let n = field::get_u32(plan, format::HEADER_ROWS) as usize;
     let len = image::length_of(plan);
     copy_head(plan, image);
-    field::put_u64(image, 16, len);
-    field::put_u64(image, 24, 0);
+    field::put_u64(image, format::HEADER_TOTAL, len);
+    field::put_u64(image, format::HEADER_ZERO, 0);
     put_rows(plan, n, image);
     put_slabs(plan, n, image);
 }

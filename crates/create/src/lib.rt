@@ -48,7 +48,7 @@ pub fn create(plan: &[u8], image: &mut [u8], flags: model::Flags) -> Created
             flags: flags,
         };
     }
-    let n = field::get_u32(plan, 12) as usize;
+    let n = field::get_u32(plan, format::HEADER_ROWS) as usize;
     let wrapped = flags.wrapped;
     let next = cleared(wrapped, n);
     build::put_image(plan, image);

@@ -14,7 +14,7 @@ pub fn length_of(s: &[u8]) -> u64
     requires { ⌜ shape (now s) ≡ true ⌝ }
     ensures { λ r. ⌜ r ≡ capped (imageLength (now (s .entry))) ⌝ }
 {
-    let n = field::get_u32(s, 12);
+    let n = field::get_u32(s, format::HEADER_ROWS);
     layout::image_length(s, n as usize)
 }
 
@@ -23,8 +23,8 @@ fn check_layout(s: &[u8]) -> model::Outcome
     requires { ⌜ shape (now s) ≡ true ⌝ }
     ensures { λ r. ⌜ outcomeNo r ≡ layoutCheck (now (s .entry)) ⌝ }
 {
-    let k = field::get_u32(s, 8);
-    let n = field::get_u32(s, 12);
+    let k = field::get_u32(s, format::HEADER_SCHEMAS);
+    let n = field::get_u32(s, format::HEADER_ROWS);
     let schemas = schema::check_schemas(s, n as usize, k);
     let model::Outcome::Accepted = schemas else {
         return schemas;
@@ -83,8 +83,8 @@ pub fn check_image(s: &[u8]) -> model::Outcome
     let model::Outcome::Accepted = laid else {
         return laid;
     };
-    let n = field::get_u32(s, 12) as usize;
-    let total = field::get_u64(s, 16);
+    let n = field::get_u32(s, format::HEADER_ROWS) as usize;
+    let total = field::get_u64(s, format::HEADER_TOTAL);
     let l = length_of(s);
     let placed = layout::is_placed(s, n);
     let right = (total == l) & placed & (l <= (s.len() as u64));

@@ -9,9 +9,12 @@ ghost use Rattle.rows.specs.Rows.{rowsTo};
 ghost use Rattle.layout.specs.Ends.{capped};
 
 // The longest image, 2^40, and what stands for a longer one.
-pub const LIMIT: u64 = 1099511627776;
+pub const LIMIT: u64 = format::LONGEST;
 
-pub const TOO_LONG: u64 = 1099511627777;
+pub const TOO_LONG: u64 = format::LONGEST + 1;
+
+// As many words of eight bytes as the longest image has room for.
+const WORDS: u64 = format::LONGEST / 8;
 
 // How many slots a row has; none where the interval is 0.
 pub fn row_slots(r: model::Row) -> u64
@@ -31,10 +34,10 @@ pub fn slab_length(n: u64, m: u64) -> u64
     ensures { λ l. ⌜ l ≡ capped (slabLength n m) ⌝ }
 {
     let lists = m + 1;
-    if n > 137438953472 / lists {
+    if n > WORDS / lists {
         return TOO_LONG;
     }
-    let l = 64 + 4 * m + 8 * (n * lists);
+    let l = format::stamps_at(m as usize) as u64 + 8 * (n * lists);
     if l > LIMIT {
         return TOO_LONG;
     }
@@ -54,7 +57,7 @@ pub fn image_length(s: &[u8], n: usize) -> u64
     requires { ⌜ (n ≤ 32) × (32 + 64 * n ≤ length (now s)) ⌝ }
     ensures { λ r. ⌜ r ≡ capped (slabsEnd (32 + 64 * n) (rowsTo (now (s .entry)) n 0)) ⌝ }
 {
-    let mut at: u64 = 32 + 64 * (n as u64);
+    let mut at: u64 = format::HEADER as u64 + format::ROW as u64 * (n as u64);
     let mut i = 0;
     while i < n {
         let r = rows::row_at(s, i);
@@ -75,7 +78,7 @@ pub fn is_placed(s: &[u8], n: usize) -> bool
     ensures { λ r. ⌜ r ≡ placed (32 + 64 * n) (rowsTo (now (s .entry)) n 0) ⌝ }
 {
     let mut good = true;
-    let mut at: u64 = 32 + 64 * (n as u64);
+    let mut at: u64 = format::HEADER as u64 + format::ROW as u64 * (n as u64);
     let mut i = 0;
     while i < n {
         let r = rows::row_at(s, i);

@@ -12,10 +12,10 @@ use Rattle.model.specs.Image.{schemas, rowPlace, rowAt}
 use Rattle.quick.specs.declared.Shared.{Shared}
 use Rattle.quick.specs.Pass.{Start}
 use Rattle.quick.specs.Seen.{PairAt, Known, Begun, Followed, Joined, Early, Only, NextTier, Ends, Low, Slotted, Timed, Slab, Here}
-use Rattle.model.specs.Layout.{slabLength, columnAt, columnBehind, stampsBehind, directory}
+use Rattle.model.specs.Layout.{slabLength, columnAt, columnBehind, stampsAt, stampsBehind, directory}
 
-pub length-is : (n m : ℕ) → n * (8 * m + 8) + (4 * m + 64) ≡ slabLength n m
-unfolding slabLength columnAt columnBehind stampsBehind directory
+pub length-is : (n m : ℕ) → n * (8 * m + 8) + stampsAt m ≡ slabLength n m
+unfolding slabLength columnAt columnBehind stampsAt stampsBehind directory
 length-is n m = omega (arith, mul-add n (8 * m) 8, mul-assoc n 8 m, mul-assoc 8 n m, mul-comm n 8, mul-suc n m)
 
 -- a product that cannot wrap
@@ -136,10 +136,11 @@ slotted-is n d r {x} low e l =
     record { held = omega (arith, sum); rest = omega (arith, sum, l); low = low }
 
 -- a slab by its words
-pub slab-is : (s : List ℕ) (at : ℕ) (r : Row) (m h : ℕ) {w y n c g high : ℕ} → m < 4_294_967_296 → high ≡ 4_294_967_296 * m → PairAt s at w → w ≡ 0x1_4f44_4e52
+pub slab-is : (s : List ℕ) (at : ℕ) (r : Row) (m h : ℕ) {w y n c g high k : ℕ} → m < 4_294_967_296 → high ≡ 4_294_967_296 * m → PairAt s at w → w ≡ 0x1_4f44_4e52
     → g ≡ get 8 s (at + 8) → g ≡ h → PairAt s (at + 16) y → (n + high) % 2 ^ 64 ≡ y → n < 134_217_728
-    → c ≡ get 4 s (at + 32) → c < n → r .len ≡ n * (8 * m + 8) + (4 * m + 64) → Timed s at r n → Slab s at r m h
-slab-is s at r m h {w} {y} {n} {high = high} few k a named g hash b e l c low len t =
+    → c ≡ get 4 s (at + 32) → c < n → k ≡ stampsAt m → r .len ≡ n * (8 * m + 8) + k → Timed s at r n → Slab s at r m h
+unfolding stampsAt stampsBehind directory
+slab-is s at r m h {w} {y} {n} {high = high} few k a named g hash b e l c low stamps len t =
     let whole : n + high < 2 ^ 64 = omega arith in
     let sum : n + high ≡ y = sym (mod-eq-of-lt whole) ∙ e in
     let four : at + 16 + 4 ≡ at + 20 = omega arith in
@@ -153,9 +154,9 @@ slab-is s at r m h {w} {y} {n} {high = high} few k a named g hash b e l c low le
       series-is = rw four at series-is;
       few-slots = omega (arith, slots-is);
       cursor-low = omega (arith, slots-is, c, low);
-      length-is = rw (← slots-is) (len ∙ length-is n m);
-      head-in = omega (arith, len);
-      small = omega (arith, len, up);
+      length-is = rw (← slots-is) (len ∙ (ap (λ x. n * (8 * m + 8) + x) stamps ∙ length-is n m));
+      head-in = omega (arith, stamps, len);
+      small = omega (arith, stamps, len, up);
       timed = rw (← slots-is) t;
     }
 

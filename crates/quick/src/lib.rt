@@ -10,6 +10,33 @@ ghost use lib.ListN.{length};
 ghost use Rattle.model.specs.Image.{schemas, rowCount, openCheck};
 ghost use Rattle.quick.specs.Seen.{PairAt, Head, Known, IfGood, Begun, Followed, Joined, Only, NextTier, Low, Slotted, Timed, Slab, Here, Begins, Early, Ends, Counted, All};
 
+// A magic word and the version behind it, as one number.
+const RSTO: u64 = format::RSTO + 0x1_0000_0000 * format::VERSION;
+
+const RNDO: u64 = format::RNDO + 0x1_0000_0000 * format::VERSION;
+
+// Where the second row stands.
+const SECOND: usize = format::HEADER + format::ROW;
+
+// An image has a header, rows and a slab's header at least: this is its length without the rows.
+const LEAST: usize = format::HEADER + format::SLAB_HEADER;
+
+// Where the first row's slab length stands.
+const FIRST_LENGTH: usize = format::HEADER + format::ROW_LENGTH;
+
+// From a row on, where fields of the next row stand.
+const NEXT_INTERVAL: usize = format::ROW + format::ROW_INTERVAL;
+
+const NEXT_FUNCTION: usize = format::ROW + format::ROW_FUNCTION;
+
+const NEXT_HASH: usize = format::ROW + format::ROW_HASH;
+
+// Where the upper half of a slab's interval stands.
+const UPPER: usize = format::SLAB_INTERVAL + 4;
+
+// The last function's number.
+const FUNCTIONS: u64 = format::FUNCTIONS as u64;
+
 // Two u32 that stand side by side, as one number: the second counts 2^32. One load; the first is read by itself for its bound alone.
 fn pair(s: &[u8], at: usize) -> u64
     requires { ⌜ at + 8 ≤ length (now s) ⌝ }
@@ -23,23 +50,23 @@ fn pair(s: &[u8], at: usize) -> u64
 fn head_good(s: &[u8]) -> bool
     ensures { λ r. ⌜ (r ≡ true → Head (now (s .entry))) ⌝ }
 {
-    if s.len() < 96 {
+    if s.len() < LEAST {
         return false;
     }
-    let named = pair(s, 0);
-    if named != 0x1_4f54_5352 {
+    let named = pair(s, format::HEADER_MAGIC);
+    if named != RSTO {
         return false;
     }
-    let total = field::get_u64(s, 16);
+    let total = field::get_u64(s, format::HEADER_TOTAL);
     if total > (s.len() as u64) {
         return false;
     }
-    let zero = field::get_u64(s, 24);
-    if (total / 0x100_0000_0000) | zero != 0 {
+    let zero = field::get_u64(s, format::HEADER_ZERO);
+    if (total / format::LONGEST) | zero != 0 {
         return false;
     }
-    let n = field::get_u32(s, 12);
-    total >= 96 + 64 * n
+    let n = field::get_u32(s, format::HEADER_ROWS);
+    total >= LEAST as u64 + format::ROW as u64 * n
 }
 
 // What the rows of a schema share: their series, the same times 2^32, and their hash.
@@ -60,19 +87,19 @@ fn starts(s: &[u8], i: usize, k: u64) -> Step
     requires { ⌜ (32 + 64 * i + 64 ≤ length (now s)) × (k < 4294967296) ⌝ }
     ensures { λ r. ⌜ IfGood (Begun (now (s .entry)) i k) r ⌝ }
 {
-    let at = 32 + 64 * i;
+    let at = format::HEADER + format::ROW * i;
     let w = pair(s, at);
     if w != k {
         return Step::Bad;
     }
-    if field::get_u32(s, at + 24) != 0 {
+    if field::get_u32(s, at + format::ROW_FUNCTION) != 0 {
         return Step::Bad;
     }
-    let m = field::get_u32(s, at + 28);
+    let m = field::get_u32(s, at + format::ROW_SERIES);
     if m == 0 {
         return Step::Bad;
     }
-    let hash = field::get_u64(s, at + 56);
+    let hash = field::get_u64(s, at + format::ROW_HASH);
     let p = Shared {
         series: m,
         high: 0x1_0000_0000 * m,
@@ -86,16 +113,16 @@ fn follows(s: &[u8], i: usize, p: Shared) -> Step
     requires { ⌜ (32 + 64 * i + 128 ≤ length (now s)) × Known (now s) i p ⌝ }
     ensures { λ r. ⌜ IfGood (Followed (now (s .entry)) i) r ⌝ }
 {
-    let at = 32 + 64 * i;
-    let x = pair(s, at + 88);
+    let at = format::HEADER + format::ROW * i;
+    let x = pair(s, at + NEXT_FUNCTION);
     let function = std::num::wrapping_sub_u64(x, p.high);
-    if function > 6 {
+    if function > FUNCTIONS {
         return Step::Bad;
     }
-    if field::get_u64(s, at + 120) != p.hash {
+    if field::get_u64(s, at + NEXT_HASH) != p.hash {
         return Step::Bad;
     }
-    if field::get_u64(s, at + 8) >= field::get_u64(s, at + 72) {
+    if field::get_u64(s, at + format::ROW_INTERVAL) >= field::get_u64(s, at + NEXT_INTERVAL) {
         return Step::Bad;
     }
     Step::Good(p)
@@ -106,9 +133,9 @@ fn joins(s: &[u8], i: usize, p: Shared) -> Step
     requires { ⌜ (32 + 64 * i + 128 ≤ length (now s)) × (i ≤ 32) × Early (now s) i × Known (now s) i p ⌝ }
     ensures { λ r. ⌜ IfGood (Joined (now (s .entry)) i) r ⌝ }
 {
-    let at = 32 + 64 * i;
+    let at = format::HEADER + format::ROW * i;
     let w = pair(s, at);
-    let x = pair(s, at + 64);
+    let x = pair(s, at + format::ROW);
     if x == w + 0x1_0000_0000 {
         return follows(s, i, p);
     }
@@ -121,7 +148,7 @@ fn next_tier(s: &[u8], i: usize, p: Shared) -> Step
     requires { ⌜ (32 + 64 * i + 128 ≤ length (now s)) × (i ≤ 32) × Only (now s) i × Known (now s) i p ⌝ }
     ensures { λ r. ⌜ IfGood (NextTier (now (s .entry)) i) r ⌝ }
 {
-    let x = pair(s, 96 + 64 * i);
+    let x = pair(s, SECOND + format::ROW * i);
     if x != 0x1_0000_0000 * (i as u64 + 1) {
         return Step::Bad;
     }
@@ -151,13 +178,13 @@ fn timed_good(s: &[u8], at: usize, r: model::Row, n: u64) -> bool
     requires { ⌜ (at + 64 ≤ length (now s)) × (0 < n) × (n < 134217728) ⌝ }
     ensures { λ b. ⌜ (b ≡ true → Timed (now (s .entry)) at r n) ⌝ }
 {
-    let high = field::get_u32(s, at + 28);
+    let high = field::get_u32(s, at + UPPER);
     let low = is_low(n, high);
     if !low {
         return false;
     }
     let interval = r.interval;
-    let x = pair(s, at + 24);
+    let x = pair(s, at + format::SLAB_INTERVAL);
     if x != interval {
         return false;
     }
@@ -170,21 +197,22 @@ fn slab_good(s: &[u8], at: usize, r: model::Row, p: Shared) -> bool
     ensures { λ b. ⌜ (b ≡ true → Slab (now (s .entry)) at r (p .series) (p .hash)) ⌝ }
 {
     let named = pair(s, at);
-    if named != 0x1_4f44_4e52 {
+    if named != RNDO {
         return false;
     }
-    if field::get_u64(s, at + 8) != p.hash {
+    if field::get_u64(s, at + format::SLAB_HASH) != p.hash {
         return false;
     }
-    let y = pair(s, at + 16);
+    let y = pair(s, at + format::SLAB_SLOTS);
     let n = std::num::wrapping_sub_u64(y, p.high);
     if n >= 0x800_0000 {
         return false;
     }
-    if field::get_u32(s, at + 32) >= n {
+    if field::get_u32(s, at + format::SLAB_CURSOR) >= n {
         return false;
     }
-    if r.len != n * (8 * p.series + 8) + (4 * p.series + 64) {
+    let stamps = format::stamps_at(p.series as usize) as u64;
+    if r.len != n * (8 * p.series + 8) + stamps {
         return false;
     }
     timed_good(s, at, r, n)
@@ -199,7 +227,7 @@ fn place_good(s: &[u8], i: usize, at: usize, p: Shared) -> bool
     if r.offset != (at as u64) {
         return false;
     }
-    if r.mark >= 0x8000_0000_0000_0000 {
+    if r.mark >= format::TOP {
         return false;
     }
     slab_good(s, at, r, p)
@@ -214,7 +242,7 @@ fn begins(s: &[u8], n: usize) -> Step
     let Step::Good(p) = first else {
         return Step::Bad;
     };
-    let here = place_good(s, 0, 32 + 64 * n, p);
+    let here = place_good(s, 0, format::HEADER + format::ROW * n, p);
     if !here {
         return Step::Bad;
     }
@@ -226,11 +254,11 @@ fn ends(s: &[u8], i: usize) -> bool
     requires { ⌜ 32 + 64 * i + 64 ≤ length (now s) ⌝ }
     ensures { λ b. ⌜ (b ≡ true → Ends (now (s .entry)) i) ⌝ }
 {
-    let schemas = field::get_u32(s, 8);
-    if schemas > 8 {
+    let schemas = field::get_u32(s, format::HEADER_SCHEMAS);
+    if schemas > format::SCHEMAS {
         return false;
     }
-    let last = field::get_u32(s, 32 + 64 * i);
+    let last = field::get_u32(s, format::HEADER + format::ROW * i);
     schemas == last + 1
 }
 
@@ -240,13 +268,13 @@ fn rows_good(s: &[u8], n: usize, total: usize, first: Shared) -> bool
     requires { ⌜ Begins (now s) (32 + 64 * n) first ⌝ }
     ensures { λ b. ⌜ (b ≡ true → All (now (s .entry)) n total) ⌝ }
 {
-    let last = total - 64;
+    let last = total - format::SLAB_HEADER;
     let mut p = first;
-    let mut at = 32 + 64 * n;
+    let mut at = format::HEADER + format::ROW * n;
     let mut i = 0;
     let mut here = true;
     while here {
-        at += field::get_u64(s, 72 + 64 * i) as usize;
+        at += field::get_u64(s, FIRST_LENGTH + format::ROW * i) as usize;
         if i + 1 == n {
             let ended = ends(s, i);
             return ended & (at == total);
@@ -272,9 +300,9 @@ fn few_good(s: &[u8], n: usize, total: usize, first: Shared) -> bool
     requires { ⌜ Begins (now s) (32 + 64 * n) first × (schemas (now s) ≡ 1) ⌝ }
     ensures { λ b. ⌜ (b ≡ true → All (now (s .entry)) n total) ⌝ }
 {
-    let top = total - 64;
+    let top = total - format::SLAB_HEADER;
     let mut p = first;
-    let mut at = 32 + 64 * n + field::get_u64(s, 72) as usize;
+    let mut at = format::HEADER + format::ROW * n + field::get_u64(s, FIRST_LENGTH) as usize;
     let mut i = 0;
     while i < 3 {
         if i + 1 == n {
@@ -293,7 +321,7 @@ fn few_good(s: &[u8], n: usize, total: usize, first: Shared) -> bool
             return false;
         }
         i += 1;
-        at += field::get_u64(s, 72 + 64 * i) as usize;
+        at += field::get_u64(s, FIRST_LENGTH + format::ROW * i) as usize;
     }
     at == total
 }
@@ -307,7 +335,7 @@ fn many_good(s: &[u8], n: usize, total: usize, first: Shared) -> bool
     if n == 0 {
         return false;
     }
-    if n > 32 {
+    if n > format::ROWS as usize {
         return false;
     }
     rows_good(s, n, total, first)
@@ -321,15 +349,15 @@ fn is_good(s: &[u8]) -> bool
     if !headed {
         return false;
     }
-    let n = field::get_u32(s, 12) as usize;
-    let total = field::get_u64(s, 16) as usize;
+    let n = field::get_u32(s, format::HEADER_ROWS) as usize;
+    let total = field::get_u64(s, format::HEADER_TOTAL) as usize;
     let begun = begins(s, n);
     let Step::Good(first) = begun else {
         return false;
     };
     if 0 < n {
         if n <= 4 {
-            let schemas = field::get_u32(s, 8);
+            let schemas = field::get_u32(s, format::HEADER_SCHEMAS);
             if schemas == 1 {
                 return few_good(s, n, total, first);
             }

@@ -20,14 +20,14 @@ pub fn checked_tier(r: model::Row) -> rows::Checked
 {
     let n = layout::row_slots(r);
     let spans = (0 < r.interval)
-        & (r.interval < 0x8000_0000_0000_0000)
+        & (r.interval < format::TOP)
         & (0 < r.retention)
-        & (r.retention < 0x8000_0000_0000_0000)
+        & (r.retention < format::TOP)
         & (r.interval <= r.retention);
     if !spans {
         return rows::Checked::Refused(model::Refusal::InvalidTierConfig);
     }
-    if n > 1_000_000_000 {
+    if n > format::SLOTS {
         return rows::Checked::Refused(model::Refusal::TooManySlots);
     }
     rows::Checked::Good(r)

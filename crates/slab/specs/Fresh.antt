@@ -7,7 +7,7 @@ use mathlib.Core.Path.{_≡_, refl, sym, ap, _∙_}
 use mathlib.Core.List.{List, [], _∷_, _++_}
 use lib.ListN.{length, set, replicate, length-append, length-replicate}
 use Rattle.model.specs.Bytes.{bytes, splice, put}
-use Rattle.model.specs.Layout.{slabLength, columnAt, columnBehind, stampsBehind, directory, freshHead, freshSlab, copies, freshValue}
+use Rattle.model.specs.Layout.{stampsAt, stampsBehind, slabLength, columnAt, columnBehind, stampsBehind, directory, freshHead, freshSlab, copies, freshValue}
 use Rattle.laws.specs.Bytes.{splice-nil, splice-cons, splice-append, splice-whole, grow, length-bytes}
 
 -- ---- fills, one turn
@@ -81,15 +81,15 @@ module _ (hash n m interval : ℕ) where
   unfolding freshSlab slabLength columnAt columnBehind stampsBehind directory
   length-fresh = simp (length-append, length-head, length-replicate, length-copies, length-bytes) (omega (arith, mul-assoc 8 n m))
 
-  -- the slab, part behind part
-  pub slab-made : (s : List ℕ) {x7 x8 x9 x10 : List ℕ} → length s ≡ slabLength n m → x7 ≡ splice s 0 (freshHead hash n m interval)
-      → x8 ≡ splice x7 64 (replicate (64 + 4 * m - 64) 255) → x9 ≡ splice x8 (64 + 4 * m) (replicate (64 + 4 * m + 8 * n - (64 + 4 * m)) 0)
-      → x10 ≡ splice x9 (64 + 4 * m + 8 * n) (copies (n * m) (bytes 8 freshValue)) → x10 ≡ freshSlab hash n m interval
-  unfolding freshSlab directory
-  slab-made s h e7 e8 e9 e10 =
+  -- the slab, part behind part; the stamps stand at k
+  pub slab-made : (s : List ℕ) {x7 x8 x9 x10 : List ℕ} {k : ℕ} → length s ≡ slabLength n m → k ≡ stampsAt m → x7 ≡ splice s 0 (freshHead hash n m interval)
+      → x8 ≡ splice x7 64 (replicate (k - 64) 255) → x9 ≡ splice x8 k (replicate (k + 8 * n - k) 0) → x10 ≡ splice x9 (k + 8 * n) (copies (n * m) (bytes 8 freshValue))
+      → x10 ≡ freshSlab hash n m interval
+  unfolding freshSlab directory stampsAt stampsBehind
+  slab-made s h e e7 e8 e9 e10 =
       let head : Front s _ (freshHead hash n m interval) 64 = record { is = e7; long = length-head } in
       let a : 64 + 4 * m - 64 ≡ 4 * m = omega arith in
       let b : 64 + 4 * m + 8 * n - (64 + 4 * m) ≡ 8 * n = omega arith in
-      let entries = front-part (replicate (4 * m) 255) head (length-replicate {A = ℕ} (4 * m) 255) (rw a at e8) in
-      let stamps = front-part (replicate (8 * n) 0) entries (length-replicate {A = ℕ} (8 * n) 0) (rw b at e9) in
-      front-part (copies (n * m) (bytes 8 freshValue)) stamps refl e10 .is ∙ splice-whole s (freshSlab hash n m interval) (length-fresh ∙ sym h)
+      let entries = front-part (replicate (4 * m) 255) head (length-replicate {A = ℕ} (4 * m) 255) (rw (e, a) at e8) in
+      let stamps = front-part (replicate (8 * n) 0) entries (length-replicate {A = ℕ} (8 * n) 0) (rw (e, b) at e9) in
+      front-part (copies (n * m) (bytes 8 freshValue)) stamps refl (rw e at e10) .is ∙ splice-whole s (freshSlab hash n m interval) (length-fresh ∙ sym h)

@@ -20,8 +20,8 @@ fn fields_sound(
 ) -> bool
     ensures { λ b. ⌜ b ≡ soundFields r n magic version hash slots series interval cursor ⌝ }
 {
-    (magic == 0x4f444e52)
-        & (version == 1)
+    (magic == format::RNDO)
+        & (version == format::VERSION)
         & (hash == r.hash)
         & (slots == n)
         & (series == (r.series as u64))
@@ -35,13 +35,13 @@ pub fn is_sound(slab: &[u8], r: model::Row) -> bool
     ensures { λ b. ⌜ b ≡ sound r (now (slab .entry)) ⌝ }
 {
     let n = layout::row_slots(r);
-    let magic = field::get_u32(slab, 0);
-    let version = field::get_u32(slab, 4);
-    let hash = field::get_u64(slab, 8);
-    let slots = field::get_u32(slab, 16);
-    let series = field::get_u32(slab, 20);
-    let interval = field::get_u64(slab, 24);
-    let cursor = field::get_u32(slab, 32);
+    let magic = field::get_u32(slab, format::SLAB_MAGIC);
+    let version = field::get_u32(slab, format::SLAB_VERSION);
+    let hash = field::get_u64(slab, format::SLAB_HASH);
+    let slots = field::get_u32(slab, format::SLAB_SLOTS);
+    let series = field::get_u32(slab, format::SLAB_SERIES);
+    let interval = field::get_u64(slab, format::SLAB_INTERVAL);
+    let cursor = field::get_u32(slab, format::SLAB_CURSOR);
     fields_sound(r, n, magic, version, hash, slots, series, interval, cursor)
 }
 
@@ -65,7 +65,7 @@ pub fn fill_cells(s: &mut [u8], from: usize, count: usize)
     let mut at = from;
     let mut left = count;
     while 0 < left {
-        field::put_u64(s, at, 0x7ff8_0000_0000_0000);
+        field::put_u64(s, at, format::FRESH);
         at = at + 8;
         left = left - 1;
     }
@@ -75,13 +75,13 @@ fn fresh_head(slab: &mut [u8], hash: u64, n: u64, m: u64, interval: u64)
     requires { ⌜ 64 ≤ length (now slab) ⌝ }
     ensures { λ _. ⌜ now (slab .exit) ≡ splice (now (slab .entry)) 0 (freshHead hash n m interval) ⌝ }
 {
-    field::put_u32(slab, 0, 0x4f444e52);
-    field::put_u32(slab, 4, 1);
-    field::put_u64(slab, 8, hash);
-    field::put_u32(slab, 16, n);
-    field::put_u32(slab, 20, m);
-    field::put_u64(slab, 24, interval);
-    fill(slab, 32, 64, 0);
+    field::put_u32(slab, format::SLAB_MAGIC, format::RNDO);
+    field::put_u32(slab, format::SLAB_VERSION, format::VERSION);
+    field::put_u64(slab, format::SLAB_HASH, hash);
+    field::put_u32(slab, format::SLAB_SLOTS, n);
+    field::put_u32(slab, format::SLAB_SERIES, m);
+    field::put_u64(slab, format::SLAB_INTERVAL, interval);
+    fill(slab, format::SLAB_CURSOR, format::SLAB_HEADER, 0);
 }
 
 // A fresh slab with n slots and m series.
@@ -89,11 +89,11 @@ pub fn fresh_slab(slab: &mut [u8], hash: u64, n: u64, m: u64, interval: u64)
     requires { ⌜ length (now slab) ≡ slabLength n m ⌝ }
     ensures { λ _. ⌜ now (slab .exit) ≡ freshSlab hash n m interval ⌝ }
 {
-    let stamps = 64 + 4 * (m as usize);
+    let stamps = format::stamps_at(m as usize);
     let cells = stamps + 8 * (n as usize);
     let count = (n * m) as usize;
     fresh_head(slab, hash, n, m, interval);
-    fill(slab, 64, stamps, 255);
+    fill(slab, format::SLAB_HEADER, stamps, 255);
     fill(slab, stamps, cells, 0);
     fill_cells(slab, cells, count);
 }

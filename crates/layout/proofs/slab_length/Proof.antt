@@ -1,6 +1,7 @@
 -- `layout::slab_length` meets its contract: n (m + 1) words pass 2^37 exactly when n passes 2^37 / (m + 1), and then 2^40 bytes are passed. Assumes nothing.
 use Prim.Native.Nat.{_+_, _*_, _≤_}
 use native.Mathlib.Omega.{arith}
+use Rattle.model.specs.Layout.{stampsAt, stampsBehind, directory}
 use Rattle.layout.proofs.Laws.{lists, over, within}
 use borrow.Author.Needs.{needs}
 use Rattle.layout.proofs.slab_length.Statement.{statement}
@@ -19,28 +20,29 @@ div-if1 c = search needs
 returns : tie.Need-returns
 returns c = let a = c .before .args in omega (arith, lists (a .n) (a .m), over (a .n) (a .m + 1) (omega arith) (c .if1 .taken))
 
-mul-l : tie.Need-mul-l
-mul-l c = search needs
+stamps-at-requires : tie.Need-stamps-at-requires
+unfolding stampsAt stampsBehind directory
+stamps-at-requires c κs = omega arith
 
-add-l : tie.Need-add-l
-add-l c = search needs
+mul-l : tie.Need-mul-l
+mul-l c = omega (arith, words-few (c .before))
 
 mul-l-2 : tie.Need-mul-l-2
-mul-l-2 c = omega (arith, words-few c)
+mul-l-2 c = omega (arith, words-few (c .before))
 
-mul-l-3 : tie.Need-mul-l-3
-mul-l-3 c = omega (arith, words-few c)
-
-add-l-2 : tie.Need-add-l-2
-add-l-2 c = omega (arith, words-few c)
+add-l : tie.Need-add-l
+unfolding stampsAt stampsBehind directory
+add-l c = omega (arith, words-few (c .before))
 
 returns-2 : tie.Need-returns-2
-returns-2 c = let a = c .before .before .args in omega (arith, lists (a .n) (a .m))
+unfolding stampsAt stampsBehind directory
+returns-2 c = let a = c .before .before .before .args in omega (arith, lists (a .n) (a .m))
 
 returns-3 : tie.Need-returns-3
-returns-3 c = let a = c .before .before .args in omega (arith, lists (a .n) (a .m))
+unfolding stampsAt stampsBehind directory
+returns-3 c = let a = c .before .before .before .args in omega (arith, lists (a .n) (a .m))
 
 pub slab-length-spec : {M : Type 1} → statement M
 slab-length-spec =
     tie.close
-    (tie.spec add-lists div-if1 returns mul-l add-l mul-l-2 mul-l-3 add-l-2 returns-2 returns-3)
+    (tie.spec add-lists div-if1 returns stamps-at-requires mul-l mul-l-2 add-l returns-2 returns-3)

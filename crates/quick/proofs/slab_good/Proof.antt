@@ -2,6 +2,7 @@
 use mathlib.Core.Bool.{false≢true}
 use native.Mathlib.Omega.{arith}
 use native.Mathlib.Nat.{mul-le-mul-right}
+use Rattle.model.specs.Layout.{stampsAt, stampsBehind, directory}
 use Rattle.quick.proofs.Laws.{slab-is}
 use Prim.Native.Nat.{_+_, _*_, _≤_}
 use borrow.Author.Needs.{needs}
@@ -58,23 +59,26 @@ get-u32-requires c κs = search needs
 returns-4 : tie.Need-returns-4
 returns-4 c = λ e. absurd (false≢true e)
 
+stamps-at-requires : tie.Need-stamps-at-requires
+unfolding stampsAt stampsBehind directory
+stamps-at-requires c κs = omega (arith, start c .pre .1)
+
 mul-if5 : tie.Need-mul-if5
 mul-if5 c = search needs
 
 add-if5 : tie.Need-add-if5
 add-if5 c = search needs
 
-mul-if5-2 : tie.Need-mul-if5-2
-mul-if5-2 c = let d = c .before in let up : words d .wrapping-sub-u64 .result ≤ 134_217_728 = omega arith in omega (arith, mul-le-mul-right (8 * shared d .series + 8) up, start d .pre .1)
+-- the cells, and the stamps in front of them
+cells-fit : (d : tie.Else4) → words d .wrapping-sub-u64 .result * (8 * shared d .series + 8) ≤ 134_217_728 * (8 * shared d .series + 8)
+cells-fit d = mul-le-mul-right (8 * shared d .series + 8) (omega (arith, d .before .before .if3 .left))
 
-mul-if5-3 : tie.Need-mul-if5-3
-mul-if5-3 c = search needs
+mul-if5-2 : tie.Need-mul-if5-2
+mul-if5-2 c = let d = c .before .before in omega (arith, cells-fit d, start d .pre .1)
 
 add-if5-2 : tie.Need-add-if5-2
-add-if5-2 c = search needs
-
-add-if5-3 : tie.Need-add-if5-3
-add-if5-3 c = let d = c .before .before in let up : words d .wrapping-sub-u64 .result ≤ 134_217_728 = omega arith in omega (arith, mul-le-mul-right (8 * shared d .series + 8) up, start d .pre .1)
+unfolding stampsAt stampsBehind directory
+add-if5-2 c = let d = c .before .before in omega (arith, cells-fit d, c .before .stamps-at .ensures, start d .pre .1)
 
 returns-5 : tie.Need-returns-5
 returns-5 c = λ e. absurd (false≢true e)
@@ -90,7 +94,7 @@ returns-6 c =
     let p = start d .pre in
     λ f. slab-is (a .s .now) (a .at) (a .r) (a .p .series) (a .p .hash) (p .1) (p .2) (e .before .before .before .before .pair .ensures) (e .before .before .before .if1 .left)
     (e .before .before .get-u64 .ensures) (e .if2 .left) (words d .before .pair2 .ensures) (words d .wrapping-sub-u64 .ensures)
-    (omega (arith, d .before .before .if3 .left)) (d .before .get-u32 .ensures .0) (d .if4 .left) (c .before .if5 .left) (c .timed-good .ensures f)
+    (omega (arith, d .before .before .if3 .left)) (d .before .get-u32 .ensures .0) (d .if4 .left) (c .before .before .before .before .stamps-at .ensures) (c .before .if5 .left) (c .timed-good .ensures f)
 
 pub slab-good-spec : {M : Type 1} → statement M
 slab-good-spec =
@@ -108,12 +112,11 @@ slab-good-spec =
     add-get-u32
     get-u32-requires
     returns-4
+    stamps-at-requires
     mul-if5
     add-if5
     mul-if5-2
-    mul-if5-3
     add-if5-2
-    add-if5-3
     returns-5
     timed-good-requires
     returns-6)
