@@ -45,7 +45,7 @@ fn store_schemas(image: &mut [u8], flags: u32, batch: &[u8], stamp: u64) -> u32
     requires { ⌜ everyEntry (fits (now image)) (entries (now batch)) ≡ true ⌝ }
     ensures { λ r. ⌜ lentAt (now (image .exit)) r ≡ writeSchemas (lentAt (now (image .entry)) flags) 0 (schemas (now (image .entry))) (entries (now (batch .entry))) stamp ⌝ }
 {
-    let count = field::get_u32(image, 8);
+    let count = field::get_u32(image, format::HEADER_SCHEMAS);
     let mut next = flags;
     let mut k = 0;
     while k < count {
@@ -65,7 +65,7 @@ pub fn batch_opened(image: &mut [u8], flags: u32, batch: &[u8], stamp: u64) -> b
     requires { ⌜ openCheck (now image) ≡ 0 ⌝ }
     ensures { λ r. ⌜ BatchDone (lentAt (now (image .entry)) flags) (entries (now (batch .entry))) stamp (outcomeNo (r .outcome)) (lentAt (now (image .exit)) (r .flags)) ⌝ }
 {
-    if batch.len() < 16 {
+    if batch.len() < format::ENTRY {
         return bits::Numbered {
             outcome: model::Outcome::Accepted,
             flags: flags,

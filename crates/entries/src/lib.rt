@@ -11,11 +11,11 @@ pub fn any_outside(image: &[u8], batch: &[u8]) -> bool
     requires { ⌜ openCheck (now image) ≡ 0 ⌝ }
     ensures { λ r. ⌜ r ≡ not (everyEntry (fits (now (image .entry))) (entries (now (batch .entry)))) ⌝ }
 {
-    let count = batch.len() / 16;
+    let count = batch.len() / format::ENTRY;
     let mut i = 0;
     while i < count {
-        let schema = field::get_u32(batch, 16 * i);
-        let column = field::get_u32(batch, 16 * i + 4);
+        let schema = field::get_u32(batch, format::ENTRY * i);
+        let column = field::get_u32(batch, format::ENTRY * i + format::ENTRY_COLUMN);
         let found = lent::finest_row(image, schema, column);
         let lent::Finest::At(_) = found else {
             return true;
@@ -29,10 +29,10 @@ pub fn any_outside(image: &[u8], batch: &[u8]) -> bool
 pub fn any_infinite(batch: &[u8]) -> bool
     ensures { λ r. ⌜ r ≡ not (everyEntry finite (entries (now (batch .entry)))) ⌝ }
 {
-    let count = batch.len() / 16;
+    let count = batch.len() / format::ENTRY;
     let mut i = 0;
     while i < count {
-        let value = field::get_u64(batch, 16 * i + 8);
+        let value = field::get_u64(batch, format::ENTRY * i + format::ENTRY_VALUE);
         let infinite = field::is_infinite(value);
         if infinite {
             return true;
@@ -46,10 +46,10 @@ pub fn any_infinite(batch: &[u8]) -> bool
 pub fn has_entry(batch: &[u8], schema: u64) -> bool
     ensures { λ r. ⌜ r ≡ isSome (entriesOf schema (entries (now (batch .entry)))) ⌝ }
 {
-    let count = batch.len() / 16;
+    let count = batch.len() / format::ENTRY;
     let mut i = 0;
     while i < count {
-        let s = field::get_u32(batch, 16 * i);
+        let s = field::get_u32(batch, format::ENTRY * i);
         if s == schema {
             return true;
         }

@@ -30,7 +30,7 @@ fn row_u32(image: &[u8], row: usize, at: usize) -> u64
     requires { ⌜ (row < rowCount (now image)) × (at ≤ 60) ⌝ }
     ensures { λ r. ⌜ (r ≡ get 4 (now (image .entry)) (rowPlace row + at)) × (r < 4294967296) ⌝ }
 {
-    field::get_u32(image, 32 + 64 * row + at)
+    field::get_u32(image, format::HEADER + format::ROW * row + at)
 }
 
 // A u64 of a row, `at` bytes behind its start.
@@ -39,7 +39,7 @@ fn row_u64(image: &[u8], row: usize, at: usize) -> u64
     requires { ⌜ (row < rowCount (now image)) × (at ≤ 56) ⌝ }
     ensures { λ r. ⌜ r ≡ get 8 (now (image .entry)) (rowPlace row + at) ⌝ }
 {
-    field::get_u64(image, 32 + 64 * row + at)
+    field::get_u64(image, format::HEADER + format::ROW * row + at)
 }
 
 // A row's slab.
@@ -48,11 +48,11 @@ pub fn slab_at(image: &[u8], row: usize) -> Slab
     requires { ⌜ row < rowCount (now image) ⌝ }
     ensures { λ r. ⌜ SlabAt (now (image .entry)) row (r .from) (r .to) (r .slots) (r .series) (r .interval) ⌝ }
 {
-    let interval = row_u64(image, row, 8);
-    let series = row_u32(image, row, 28) as usize;
-    let from = row_u64(image, row, 32) as usize;
-    let len = row_u64(image, row, 40) as usize;
-    let slots = field::get_u32(image, from + 16) as usize;
+    let interval = row_u64(image, row, format::ROW_INTERVAL);
+    let series = row_u32(image, row, format::ROW_SERIES) as usize;
+    let from = row_u64(image, row, format::ROW_OFFSET) as usize;
+    let len = row_u64(image, row, format::ROW_LENGTH) as usize;
+    let slots = field::get_u32(image, from + format::SLAB_SLOTS) as usize;
     Slab {
         from: from,
         to: from + len,
@@ -67,10 +67,10 @@ pub fn first_row(image: &[u8], schema: u64) -> usize
     requires { ⌜ openCheck (now image) ≡ 0 ⌝ }
     ensures { λ r. ⌜ (r ≡ firstRow schema (rows (now (image .entry)))) × (r ≤ rowCount (now (image .entry))) ⌝ }
 {
-    let count = field::get_u32(image, 12) as usize;
+    let count = field::get_u32(image, format::HEADER_ROWS) as usize;
     let mut i = 0;
     while i < count {
-        let s = row_u32(image, i, 0);
+        let s = row_u32(image, i, format::ROW_SCHEMA);
         if s == schema {
             return i;
         }
@@ -86,16 +86,16 @@ pub fn finest_row(image: &[u8], schema: u64, column: u64) -> Finest
 {
     let mut i = 0;
     loop {
-        let s = row_u32(image, i, 0);
+        let s = row_u32(image, i, format::ROW_SCHEMA);
         if s == schema {
-            let series = row_u32(image, i, 28);
+            let series = row_u32(image, i, format::ROW_SERIES);
             if column >= series {
                 return Finest::Missing;
             }
             return Finest::At(i);
         }
         i += 1;
-        let count = field::get_u32(image, 12) as usize;
+        let count = field::get_u32(image, format::HEADER_ROWS) as usize;
         if i == count {
             return Finest::Missing;
         }

@@ -96,7 +96,7 @@ pub fn open(image: &[u8], flags: model::Flags) -> Opened
             flags: flags,
         };
     };
-    let n = field::get_u32(image, 12) as usize;
+    let n = field::get_u32(image, format::HEADER_ROWS) as usize;
     let wrapped = flags.wrapped;
     let next = flags_of(image, n, wrapped);
     Opened {

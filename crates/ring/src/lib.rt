@@ -11,7 +11,7 @@ pub fn stamp_place(n: usize, m: usize, slot: usize) -> usize
     requires { ⌜ (slot < n) × (slabLength n m < 2 ^ 63) ⌝ }
     ensures { λ r. ⌜ (r ≡ stampsAt m + 8 * slot) × (r + 8 ≤ slabLength n m) ⌝ }
 {
-    64 + 4 * m + 8 * slot
+    format::stamps_at(m) + 8 * slot
 }
 
 // Where the cell of a column in a slot stands.
@@ -19,7 +19,7 @@ pub fn cell_place(n: usize, m: usize, column: usize, slot: usize) -> usize
     requires { ⌜ (slot < n) × (column < m) × (slabLength n m < 2 ^ 63) ⌝ }
     ensures { λ r. ⌜ (r ≡ columnAt n m column + 8 * slot) × (r + 8 ≤ slabLength n m) ⌝ }
 {
-    64 + 4 * m + 8 * (n * (column + 1) + slot)
+    format::stamps_at(m) + 8 * (n * (column + 1) + slot)
 }
 
 // A slot's stamp.
@@ -47,7 +47,7 @@ pub fn cursor_of(slab: &[u8], n: usize, m: usize) -> usize
     requires { ⌜ Sized (now slab) n m ⌝ }
     ensures { λ r. ⌜ (r ≡ cursor (now (slab .entry))) × (r < n) ⌝ }
 {
-    field::get_u32(slab, 32) as usize
+    field::get_u32(slab, format::SLAB_CURSOR) as usize
 }
 
 // The slot after a slot, round the ring.

@@ -68,16 +68,16 @@ fn write_cells(slab: &mut [u8], n: usize, m: usize, slot: usize, batch: &[u8], s
     requires { ⌜ (slot < n) × Columns m (entriesOf schema (entries (now batch))) ⌝ }
     ensures { λ _. ⌜ now (slab .exit) ≡ putCells (now (slab .entry)) slot (entriesOf schema (entries (now (batch .entry)))) ⌝ }
 {
-    let count = batch.len() / 16;
+    let count = batch.len() / format::ENTRY;
     let mut i = 0;
     while i < count {
-        let s = field::get_u32(batch, 16 * i);
+        let s = field::get_u32(batch, format::ENTRY * i);
         if s != schema {
             i += 1;
             continue;
         }
-        let column = field::get_u32(batch, 16 * i + 4) as usize;
-        let value = field::get_u64(batch, 16 * i + 8);
+        let column = field::get_u32(batch, format::ENTRY * i + format::ENTRY_COLUMN) as usize;
+        let value = field::get_u64(batch, format::ENTRY * i + format::ENTRY_VALUE);
         write_cell(slab, n, m, column, slot, value);
         i += 1;
     }
@@ -88,7 +88,7 @@ fn write_cursor(slab: &mut [u8], slot: usize)
     requires { ⌜ 64 ≤ length (now slab) ⌝ }
     ensures { λ _. ⌜ now (slab .exit) ≡ put 4 (now (slab .entry)) 32 slot ⌝ }
 {
-    field::put_u32(slab, 32, slot as u64);
+    field::put_u32(slab, format::SLAB_CURSOR, slot as u64);
 }
 
 // Stores one value: stamp, cell, cursor. Answers the flag.

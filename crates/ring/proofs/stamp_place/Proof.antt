@@ -4,6 +4,10 @@ use native.Mathlib.Omega.{arith}
 use Rattle.ring.proofs.stamp_place.Statement.{statement}
 use Rattle.ring.proofs.stamp_place.Tie as tie
 
+stamps-at-requires : tie.Need-stamps-at-requires
+unfolding slabLength stampsAt columnAt columnBehind stampsBehind directory
+stamps-at-requires c κs = omega arith
+
 mul-result : tie.Need-mul-result
 unfolding slabLength stampsAt columnAt columnBehind stampsBehind directory
 mul-result c = omega arith
@@ -12,17 +16,9 @@ add-result : tie.Need-add-result
 unfolding slabLength stampsAt columnAt columnBehind stampsBehind directory
 add-result c = omega arith
 
-mul-result-2 : tie.Need-mul-result-2
-unfolding slabLength stampsAt columnAt columnBehind stampsBehind directory
-mul-result-2 c = omega arith
-
-add-result-2 : tie.Need-add-result-2
-unfolding slabLength stampsAt columnAt columnBehind stampsBehind directory
-add-result-2 c = omega arith
-
 returns : tie.Need-returns
 unfolding slabLength stampsAt columnAt columnBehind stampsBehind directory
 returns c = omega arith
 
 pub stamp-place-spec : {M : Type 1} → statement M
-stamp-place-spec = tie.close (tie.spec mul-result add-result mul-result-2 add-result-2 returns)
+stamp-place-spec = tie.close (tie.spec stamps-at-requires mul-result add-result returns)
