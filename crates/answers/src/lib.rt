@@ -87,7 +87,7 @@ pub fn write_answer(
             filling,
             window,
             column,
-            0x7ff8_0000_0000_0000,
+            format::FRESH,
         ),
     }
 }

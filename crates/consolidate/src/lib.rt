@@ -33,7 +33,7 @@ fn run_pairs(image: &mut [u8], flags: model::Flags) -> pair::Progress
     requires { ⌜ openCheck (now image) ≡ 0 ⌝ }
     ensures { λ r. ⌜ runOf (now (image .exit)) r ≡ pairs (fresh (now (image .entry)) flags) 0 (rowCount (now (image .entry)) - 1) ⌝ }
 {
-    let n = field::get_u32(image, 12) as usize;
+    let n = field::get_u32(image, format::HEADER_ROWS) as usize;
     let mut u = pair::Progress {
         flags: flags,
         count: 0,

@@ -32,12 +32,12 @@ pub fn has_tier(image: &[u8], schema: u64, first: usize, tier: usize) -> bool
     requires { ⌜ (first ≡ firstRow schema (rows (now image))) × (first < rowCount (now image)) × (tier < 4294967296) ⌝ }
     ensures { λ r. ⌜ r ≡ ltb tier (length (tiersOf schema (rows (now (image .entry))))) ⌝ }
 {
-    let n = field::get_u32(image, 12) as usize;
+    let n = field::get_u32(image, format::HEADER_ROWS) as usize;
     let row = first + tier;
     if row >= n {
         return false;
     }
-    let s = field::get_u32(image, 32 + 64 * row);
+    let s = field::get_u32(image, format::HEADER + format::ROW * row);
     s == schema
 }
 

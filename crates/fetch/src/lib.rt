@@ -89,8 +89,8 @@ pub fn fetch(
     }
     let reads = reader::is_readable(slab, column, place);
     if reads {
-        let n = field::get_u32(slab, 16) as usize;
-        let m = field::get_u32(slab, 20) as usize;
+        let n = field::get_u32(slab, format::SLAB_SLOTS) as usize;
+        let m = field::get_u32(slab, format::SLAB_SERIES) as usize;
         return fetch_from(slab, n, m, column, start, end, place, points);
     }
     Fetched {

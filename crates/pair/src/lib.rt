@@ -51,7 +51,11 @@ fn move_mark(image: &mut [u8], row: usize, stamp: u64, writes: u64, outcome: mod
     if writes == 0 {
         return;
     }
-    field::put_u64(image, 32 + 64 * row + 48, stamp);
+    field::put_u64(
+        image,
+        format::HEADER + format::ROW * row + format::ROW_MARK,
+        stamp,
+    );
 }
 
 // One before the end, or 0: the newest stamp.

@@ -21,8 +21,8 @@ use Rattle.reader.specs.Held.{Held}
 -- ---- a slab that can be read
 
 -- n slots of a stamp and m cells
-slab-length : (n m : ℕ) → slabLength n m ≡ 64 + 4 * m + 8 * (n * (m + 1))
-unfolding slabLength columnAt columnBehind stampsBehind directory
+slab-length : (n m : ℕ) → slabLength n m ≡ stampsAt m + 8 * (n * (m + 1))
+unfolding slabLength columnAt columnBehind stampsAt stampsBehind directory
 slab-length n m = rw (add-one m) (omega (arith, mul-assoc 8 n m, mul-suc n m))
 
 -- the product that the code compares fits
@@ -32,21 +32,22 @@ cells-fit n m h k =
     let b : m + 1 ≤ 4294967296 = omega arith in
     omega (arith, mul-le-mul a b)
 
-module _ (s : List ℕ) (c : ℕ) (p : Place) {n m : ℕ} (n-is : n ≡ get 4 s 16) (m-is : m ≡ get 4 s 20) (header : 64 ≤ length s) where
+-- n slots, m series, the stamps at k
+module _ (s : List ℕ) (c : ℕ) (p : Place) {n m k : ℕ} (n-is : n ≡ get 4 s 16) (m-is : m ≡ get 4 s 20) (k-is : k ≡ stampsAt m) (header : 64 ≤ length s) where
   by-sizes : readable s c p ≡ (leb (slabLength n m) (length s) && ltb c m && ltb (p .slot) n && leb (p .left) n)
   unfolding readable slots series
   by-sizes = rw (yes-le 64 (length s) header, n-is, m-is)
 
   -- no room for the directory, or none for stamps and cells
-  pub no-directory : length s - 64 < 4 * m → false ≡ readable s c p
-  no-directory h = sym (by-sizes ∙ rw (no-le (slabLength n m) (length s) (omega (arith, slab-length n m))))
+  pub no-directory : length s < k → false ≡ readable s c p
+  no-directory h = sym (by-sizes ∙ rw (no-le (slabLength n m) (length s) (omega (arith, slab-length n m, k-is))))
 
-  pub no-room : (length s - 64 - 4 * m) / 8 < n * (m + 1) → false ≡ readable s c p
-  no-room h = sym (by-sizes ∙ rw (no-le (slabLength n m) (length s) (omega (arith, slab-length n m))))
+  pub no-room : (length s - k) / 8 < n * (m + 1) → false ≡ readable s c p
+  no-room h = sym (by-sizes ∙ rw (no-le (slabLength n m) (length s) (omega (arith, slab-length n m, k-is))))
 
-  module _ (directory-in : 4 * m ≤ length s - 64) (room : n * (m + 1) ≤ (length s - 64 - 4 * m) / 8) where
+  module _ (directory-in : k ≤ length s) (room : n * (m + 1) ≤ (length s - k) / 8) where
     whole : leb (slabLength n m) (length s) ≡ true
-    whole = yes-le (slabLength n m) (length s) (omega (arith, slab-length n m))
+    whole = yes-le (slabLength n m) (length s) (omega (arith, slab-length n m, k-is))
 
     pub no-column : m ≤ c → false ≡ readable s c p
     no-column h = sym (by-sizes ∙ rw (whole, no-lt c m h))

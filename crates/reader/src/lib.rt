@@ -9,16 +9,16 @@ ghost use Rattle.reader.specs.Held.{Held};
 pub fn is_readable(slab: &[u8], column: u32, place: model::Place) -> bool
     ensures { λ r. ⌜ r ≡ readable (now (slab .entry)) column place ⌝ }
 {
-    if slab.len() < 64 {
+    if slab.len() < format::SLAB_HEADER {
         return false;
     }
-    let n = field::get_u32(slab, 16);
-    let m = field::get_u32(slab, 20);
-    let room = (slab.len() - 64) as u64;
-    if room < 4 * m {
+    let n = field::get_u32(slab, format::SLAB_SLOTS);
+    let m = field::get_u32(slab, format::SLAB_SERIES);
+    let stamps = format::stamps_at(m as usize);
+    if slab.len() < stamps {
         return false;
     }
-    if (room - 4 * m) / 8 < n * (m + 1) {
+    if ((slab.len() - stamps) as u64) / 8 < n * (m + 1) {
         return false;
     }
     if (column as u64) >= m {
@@ -90,8 +90,8 @@ pub fn step(slab: &[u8], column: u32, start: u64, end: u64, place: model::Place)
 {
     let reads = is_readable(slab, column, place);
     if reads {
-        let n = field::get_u32(slab, 16) as usize;
-        let m = field::get_u32(slab, 20) as usize;
+        let n = field::get_u32(slab, format::SLAB_SLOTS) as usize;
+        let m = field::get_u32(slab, format::SLAB_SERIES) as usize;
         return step_from(slab, n, m, column as usize, start, end, place);
     }
     model::Stepped {

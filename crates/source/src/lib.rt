@@ -33,7 +33,7 @@ pub fn stamps_below(slab: &[u8], n: usize, m: usize) -> bool
     let mut i = 0;
     while i < n {
         let t = ring::stamp_of(slab, n, m, i);
-        if t >= 0x8000_0000_0000_0000 {
+        if t >= format::TOP {
             return false;
         }
         i += 1;
