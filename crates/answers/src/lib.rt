@@ -45,16 +45,12 @@ fn write_bits(
             outcome: model::Outcome::Refused(model::Refusal::InvalidTimestamp),
         };
     }
-    let flag = write::write(
-        slab,
-        d.slots,
-        d.series,
-        d.interval,
-        column,
-        bits,
-        window,
-        wrapped,
-    );
+    let z = ring::Sizes {
+        slots: d.slots,
+        series: d.series,
+        interval: d.interval,
+    };
+    let flag = write::write(slab, z, column, bits, window, wrapped);
     Filling {
         wrapped: flag,
         writes: writes + 1,

@@ -22,20 +22,13 @@ fn store_schema(image: &mut [u8], flags: u32, schema: u64, batch: &[u8], stamp: 
     let slab = lent::slab_at(image, row);
     let from = slab.from;
     let to = slab.to;
-    let n = slab.slots;
-    let m = slab.series;
-    let interval = slab.interval;
+    let z = ring::Sizes {
+        slots: slab.slots,
+        series: slab.series,
+        interval: slab.interval,
+    };
     let wrapped = bits::flag_at(flags, row);
-    let after = write::write_batch(
-        &mut image[from..to],
-        n,
-        m,
-        interval,
-        batch,
-        schema,
-        stamp,
-        wrapped,
-    );
+    let after = write::write_batch(&mut image[from..to], z, batch, schema, stamp, wrapped);
     bits::with_flag(flags, row, after)
 }
 

@@ -33,19 +33,12 @@ pub fn store(
     let slab = lent::slab_at(image, row);
     let from = slab.from;
     let to = slab.to;
-    let n = slab.slots;
-    let m = slab.series;
-    let interval = slab.interval;
-    write::write(
-        &mut image[from..to],
-        n,
-        m,
-        interval,
-        column,
-        value,
-        stamp,
-        wrapped,
-    )
+    let z = ring::Sizes {
+        slots: slab.slots,
+        series: slab.series,
+        interval: slab.interval,
+    };
+    write::write(&mut image[from..to], z, column, value, stamp, wrapped)
 }
 
 // Where a value goes: the row of its ring. Or why it is refused.

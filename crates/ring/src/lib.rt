@@ -6,6 +6,13 @@ ghost use Rattle.model.specs.Layout.{slabLength, stampsAt, columnAt};
 ghost use Rattle.model.specs.Ring.{cursor, stamp, cell, firstPlace};
 ghost use Rattle.ring.specs.Parts.{Sized, ringOf};
 
+// The sizes of a slab: its slots, its series, its interval.
+pub struct Sizes {
+    pub slots: usize,
+    pub series: usize,
+    pub interval: u64,
+}
+
 // Where a slot's stamp stands.
 pub fn stamp_place(n: usize, m: usize, slot: usize) -> usize
     requires { ⌜ (slot < n) × (slabLength n m < 2 ^ 63) ⌝ }

@@ -29,22 +29,15 @@ fn flag_after(wrapped: bool, slot: usize, cursor: usize) -> bool
 }
 
 // Stores the stamp.
-fn write_stamp(
-    slab: &mut [u8],
-    n: usize,
-    m: usize,
-    interval: u64,
-    stamp: u64,
-    wrapped: bool,
-) -> Stamped
-    requires { ⌜ Sound (now slab) n m interval ⌝ }
-    requires { ⌜ 0 < interval ⌝ }
-    ensures { λ r. ⌜ Stamp (now (slab .entry)) n m interval stamp wrapped (r .slot) (r .wrapped) (now (slab .exit)) ⌝ }
+fn write_stamp(slab: &mut [u8], z: ring::Sizes, stamp: u64, wrapped: bool) -> Stamped
+    requires { ⌜ Sound (now slab) (z .slots) (z .series) (z .interval) ⌝ }
+    requires { ⌜ 0 < z .interval ⌝ }
+    ensures { λ r. ⌜ Stamp (now (slab .entry)) (z .slots) (z .series) (z .interval) stamp wrapped (r .slot) (r .wrapped) (now (slab .exit)) ⌝ }
 {
-    let slot = ring::slot_of(stamp, interval, n);
-    let cursor = ring::cursor_of(slab, n, m);
+    let slot = ring::slot_of(stamp, z.interval, z.slots);
+    let cursor = ring::cursor_of(slab, z.slots, z.series);
     let flag = flag_after(wrapped, slot, cursor);
-    let at = ring::stamp_place(n, m, slot);
+    let at = ring::stamp_place(z.slots, z.series, slot);
     field::put_u64(slab, at, stamp);
     Stamped {
         slot: slot,
@@ -53,19 +46,19 @@ fn write_stamp(
 }
 
 // Stores a value in the cell of a column in a slot.
-fn write_cell(slab: &mut [u8], n: usize, m: usize, column: usize, slot: usize, value: u64)
-    requires { ⌜ Sized (now slab) n m ⌝ }
-    requires { ⌜ (slot < n) × (column < m) ⌝ }
-    ensures { λ _. ⌜ (now (slab .exit) ≡ putCells (now (slab .entry)) slot (one column value)) × Sound (now (slab .exit)) n m (interval (now (slab .entry))) ⌝ }
+fn write_cell(slab: &mut [u8], z: ring::Sizes, column: usize, slot: usize, value: u64)
+    requires { ⌜ Sized (now slab) (z .slots) (z .series) ⌝ }
+    requires { ⌜ (slot < z .slots) × (column < z .series) ⌝ }
+    ensures { λ _. ⌜ (now (slab .exit) ≡ putCells (now (slab .entry)) slot (one column value)) × Sound (now (slab .exit)) (z .slots) (z .series) (interval (now (slab .entry))) ⌝ }
 {
-    let at = ring::cell_place(n, m, column, slot);
+    let at = ring::cell_place(z.slots, z.series, column, slot);
     field::put_u64(slab, at, value);
 }
 
 // Stores the values that a batch has for a schema, in order.
-fn write_cells(slab: &mut [u8], n: usize, m: usize, slot: usize, batch: &[u8], schema: u64)
-    requires { ⌜ Sized (now slab) n m ⌝ }
-    requires { ⌜ (slot < n) × Columns m (entriesOf schema (entries (now batch))) ⌝ }
+fn write_cells(slab: &mut [u8], z: ring::Sizes, slot: usize, batch: &[u8], schema: u64)
+    requires { ⌜ Sized (now slab) (z .slots) (z .series) ⌝ }
+    requires { ⌜ (slot < z .slots) × Columns (z .series) (entriesOf schema (entries (now batch))) ⌝ }
     ensures { λ _. ⌜ now (slab .exit) ≡ putCells (now (slab .entry)) slot (entriesOf schema (entries (now (batch .entry)))) ⌝ }
 {
     let count = batch.len() / format::ENTRY;
@@ -78,7 +71,7 @@ fn write_cells(slab: &mut [u8], n: usize, m: usize, slot: usize, batch: &[u8], s
         }
         let column = field::get_u32(batch, format::ENTRY * i + format::ENTRY_COLUMN) as usize;
         let value = field::get_u64(batch, format::ENTRY * i + format::ENTRY_VALUE);
-        write_cell(slab, n, m, column, slot, value);
+        write_cell(slab, z, column, slot, value);
         i += 1;
     }
 }
@@ -94,21 +87,19 @@ fn write_cursor(slab: &mut [u8], slot: usize)
 // Stores one value: stamp, cell, cursor. Answers the flag.
 pub fn write(
     slab: &mut [u8],
-    n: usize,
-    m: usize,
-    interval: u64,
+    z: ring::Sizes,
     column: usize,
     value: u64,
     stamp: u64,
     wrapped: bool,
 ) -> bool
-    requires { ⌜ Sound (now slab) n m interval ⌝ }
-    requires { ⌜ (0 < interval) × (column < m) ⌝ }
-    ensures { λ r. ⌜ (ringOf (now (slab .exit)) r ≡ write (ringOf (now (slab .entry)) wrapped) (one column value) stamp) × Sound (now (slab .exit)) n m interval ⌝ }
+    requires { ⌜ Sound (now slab) (z .slots) (z .series) (z .interval) ⌝ }
+    requires { ⌜ (0 < z .interval) × (column < z .series) ⌝ }
+    ensures { λ r. ⌜ (ringOf (now (slab .exit)) r ≡ write (ringOf (now (slab .entry)) wrapped) (one column value) stamp) × Sound (now (slab .exit)) (z .slots) (z .series) (z .interval) ⌝ }
 {
-    let t = write_stamp(slab, n, m, interval, stamp, wrapped);
+    let t = write_stamp(slab, z, stamp, wrapped);
     let slot = t.slot;
-    write_cell(slab, n, m, column, slot, value);
+    write_cell(slab, z, column, slot, value);
     write_cursor(slab, slot);
     t.wrapped
 }
@@ -116,21 +107,19 @@ pub fn write(
 // Stores the values that a batch has for a schema: stamp, cells, cursor. Answers the flag. With no entries it stores the stamp.
 pub fn write_batch(
     slab: &mut [u8],
-    n: usize,
-    m: usize,
-    interval: u64,
+    z: ring::Sizes,
     batch: &[u8],
     schema: u64,
     stamp: u64,
     wrapped: bool,
 ) -> bool
-    requires { ⌜ Sound (now slab) n m interval ⌝ }
-    requires { ⌜ (0 < interval) × Columns m (entriesOf schema (entries (now batch))) ⌝ }
-    ensures { λ r. ⌜ (ringOf (now (slab .exit)) r ≡ write (ringOf (now (slab .entry)) wrapped) (entriesOf schema (entries (now (batch .entry)))) stamp) × Sound (now (slab .exit)) n m interval ⌝ }
+    requires { ⌜ Sound (now slab) (z .slots) (z .series) (z .interval) ⌝ }
+    requires { ⌜ (0 < z .interval) × Columns (z .series) (entriesOf schema (entries (now batch))) ⌝ }
+    ensures { λ r. ⌜ (ringOf (now (slab .exit)) r ≡ write (ringOf (now (slab .entry)) wrapped) (entriesOf schema (entries (now (batch .entry)))) stamp) × Sound (now (slab .exit)) (z .slots) (z .series) (z .interval) ⌝ }
 {
-    let t = write_stamp(slab, n, m, interval, stamp, wrapped);
+    let t = write_stamp(slab, z, stamp, wrapped);
     let slot = t.slot;
-    write_cells(slab, n, m, slot, batch, schema);
+    write_cells(slab, z, slot, batch, schema);
     write_cursor(slab, slot);
     t.wrapped
 }

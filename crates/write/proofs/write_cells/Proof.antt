@@ -31,10 +31,10 @@ record Inv (slab₀ : List ℕ) (n m slot : ℕ) (batch : List ℕ) (schema coun
   leads : putCells slab slot (rest batch schema count i) ≡ putCells slab₀ slot (entriesOf schema (entries batch))
 
 abbrev Inv-loop : tie.InvT-loop
-Inv-loop slab₀ n m slot batch schema count i₀ slab i = Inv slab₀ n m slot batch schema count slab i
+Inv-loop slab₀ z slot batch schema count i₀ slab i = Inv slab₀ (z .slots) (z .series) slot batch schema count slab i
 
 abbrev μ-loop : tie.MeasureT-loop
-μ-loop slab₀ n m slot batch schema count i₀ slab i = count - i
+μ-loop slab₀ z slot batch schema count i₀ slab i = count - i
 
 -- ---- entry i, said once where its schema is known
 
