@@ -5,16 +5,16 @@ use Rattle.model.specs.Words.{outcomeNo}
 use Rattle.model.specs.Consolidate.{Filled}
 use Rattle.rings.specs.Sound.{Sound}
 use Rattle.ring.specs.Parts.{ringOf}
-use Rattle.lent.specs.declared.Slab.{Slab}
+use Rattle.ring.specs.declared.Sizes.{Sizes}
 use Rattle.answers.specs.declared.Filling.{Filling}
 
 -- a filling of the destination's slab s
 abbrev pub filledOf : List ℕ → Filling → Filled
 filledOf s r = record { ring = ringOf s (r .wrapped); writes = r .writes; refusal = outcomeNo (r .outcome) }
 
--- the slab s of a row d can take a value of the column
-pub record Ready (s : List ℕ) (d : Slab) (r : Filling) (column : ℕ) : Type 0 where
-  pub sound : Sound s (d .slots) (d .series) (d .interval)
-  pub some-interval : 0 < d .interval
-  pub column-in : column < d .series
+-- the slab s with sizes z can take a value of the column
+pub record Ready (s : List ℕ) (z : Sizes) (r : Filling) (column : ℕ) : Type 0 where
+  pub sound : Sound s (z .slots) (z .series) (z .interval)
+  pub some-interval : 0 < z .interval
+  pub column-in : column < z .series
   pub few-writes : r .writes < 2 ^ 63

@@ -17,15 +17,15 @@ pub struct Filling {
 // One value of a window, by its pattern.
 fn write_bits(
     slab: &mut [u8],
-    d: lent::Slab,
+    z: ring::Sizes,
     filling: Filling,
     window: u64,
     column: usize,
     bits: u64,
 ) -> Filling
-    requires { ⌜ Ready (now slab) d filling column ⌝ }
+    requires { ⌜ Ready (now slab) z filling column ⌝ }
     ensures { λ r. ⌜ filledOf (now (slab .exit)) r ≡ writeBits (filledOf (now (slab .entry)) filling) window column bits ⌝ }
-    ensures { λ r. ⌜ Sound (now (slab .exit)) (d .slots) (d .series) (d .interval) × (r .writes ≤ filling .writes + 1) ⌝ }
+    ensures { λ r. ⌜ Sound (now (slab .exit)) (z .slots) (z .series) (z .interval) × (r .writes ≤ filling .writes + 1) ⌝ }
 {
     let wrapped = filling.wrapped;
     let writes = filling.writes;
@@ -45,11 +45,6 @@ fn write_bits(
             outcome: model::Outcome::Refused(model::Refusal::InvalidTimestamp),
         };
     }
-    let z = ring::Sizes {
-        slots: d.slots,
-        series: d.series,
-        interval: d.interval,
-    };
     let flag = write::write(slab, z, column, bits, window, wrapped);
     Filling {
         wrapped: flag,
@@ -61,25 +56,25 @@ fn write_bits(
 // A window's answer for a column.
 pub fn write_answer(
     slab: &mut [u8],
-    d: lent::Slab,
+    z: ring::Sizes,
     x: model::WindowAnswer,
     filling: Filling,
     window: u64,
     column: usize,
 ) -> Filling
-    requires { ⌜ Ready (now slab) d filling column × Fine x ⌝ }
+    requires { ⌜ Ready (now slab) z filling column × Fine x ⌝ }
     ensures { λ r. ⌜ filledOf (now (slab .exit)) r ≡ writeAnswer x (filledOf (now (slab .entry)) filling) window column ⌝ }
-    ensures { λ r. ⌜ Sound (now (slab .exit)) (d .slots) (d .series) (d .interval) × (r .writes ≤ filling .writes + 1) ⌝ }
+    ensures { λ r. ⌜ Sound (now (slab .exit)) (z .slots) (z .series) (z .interval) × (r .writes ≤ filling .writes + 1) ⌝ }
 {
     match x {
         model::WindowAnswer::Empty => filling,
         model::WindowAnswer::Number(v) => {
             let bits = f64::to_bits(v);
-            write_bits(slab, d, filling, window, column, bits)
+            write_bits(slab, z, filling, window, column, bits)
         }
         model::WindowAnswer::NothingFinite => write_bits(
             slab,
-            d,
+            z,
             filling,
             window,
             column,

@@ -22,11 +22,7 @@ fn store_schema(image: &mut [u8], flags: u32, schema: u64, batch: &[u8], stamp: 
     let slab = lent::slab_at(image, row);
     let from = slab.from;
     let to = slab.to;
-    let z = ring::Sizes {
-        slots: slab.slots,
-        series: slab.series,
-        interval: slab.interval,
-    };
+    let z = slab.sizes;
     let wrapped = bits::flag_at(flags, row);
     let after = write::write_batch(&mut image[from..to], z, batch, schema, stamp, wrapped);
     bits::with_flag(flags, row, after)

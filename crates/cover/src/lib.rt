@@ -51,9 +51,10 @@ fn ring_at(image: &[u8], row: usize, wrapped: bool) -> Reach
     let from = s.from;
     let to = s.to;
     let slab = &image[from..to];
-    let oldest = ends::oldest(slab, s.slots, s.series, wrapped);
-    let newest = ends::newest(slab, s.slots, s.series, wrapped);
-    let place = ring::first_place(slab, s.slots, s.series, wrapped);
+    let z = s.sizes;
+    let oldest = ends::oldest(slab, z.slots, z.series, wrapped);
+    let newest = ends::newest(slab, z.slots, z.series, wrapped);
+    let place = ring::first_place(slab, z.slots, z.series, wrapped);
     Reach {
         from: from,
         oldest: oldest,

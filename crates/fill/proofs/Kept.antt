@@ -34,7 +34,7 @@ module _ (s : List ℕ) (p : Pair) (h : Lies s p) where
   length-dest = length-part s (p .dest .from) (p .dest .to - p .dest .from) (omega (arith, h .dest-forth, h .inside))
 
   -- with other bytes in the destination's place, in good order
-  keeps-splice : (ys : List ℕ) → length ys ≡ p .dest .to - p .dest .from → Sound ys (p .dest .slots) (p .dest .series) (p .dest .interval)
+  keeps-splice : (ys : List ℕ) → length ys ≡ p .dest .to - p .dest .from → Sound ys (p .dest .sizes .slots) (p .dest .sizes .series) (p .dest .sizes .interval)
       → (destIn (splice s (p .dest .from) ys) p ≡ ys) × Keeps s (splice s (p .dest .from) ys) p
   keeps-splice ys l k =
       let b = p .dest .from in
@@ -52,7 +52,7 @@ module _ (s : List ℕ) (p : Pair) (h : Lies s p) where
             dest-forth = h .dest-forth;
             inside = omega (arith, h .inside, length-splice s b ys);
             readable = subst (λ (x : List ℕ). Readable x (p .reading)) (sym e) (h .readable);
-            sound = subst (λ (x : List ℕ). Sound x (p .dest .slots) (p .dest .series) (p .dest .interval)) (sym d) k;
+            sound = subst (λ (x : List ℕ). Sound x (p .dest .sizes .slots) (p .dest .sizes .series) (p .dest .sizes .interval)) (sym d) k;
             some-interval = h .some-interval;
             end-low = h .end-low;
             same-series = h .same-series;
@@ -71,7 +71,7 @@ module _ (s : List ℕ) (p : Pair) (h : Lies s p) where
   -- one answer written
   pub column-filled : (ys : List ℕ) → length ys ≡ p .dest .to - p .dest .from → (filling r : Filling) (w c : ℕ) {x : WindowAnswer}
       → x ≡ windowAnswer (jobOf s p) w c → filledOf ys r ≡ writeAnswer x (filledIn s p filling) w c
-      → Sound ys (p .dest .slots) (p .dest .series) (p .dest .interval)
+      → Sound ys (p .dest .sizes .slots) (p .dest .sizes .series) (p .dest .sizes .interval)
       → (filledIn (putMid (p .dest .from) (p .dest .to - p .dest .from) s ys) p r ≡ writeAnswer (windowAnswer (jobOf s p) w c) (filledIn s p filling) w c)
       × Keeps s (putMid (p .dest .from) (p .dest .to - p .dest .from) s ys) p
   column-filled ys l filling r w c e f k =

@@ -35,10 +35,10 @@ pub record Lies (s : List ℕ) (p : Pair) : Type 0 where
   pub dest-forth : p .dest .from ≤ p .dest .to
   pub inside : p .dest .to ≤ length s
   pub readable : Readable (sourceIn s p) (p .reading)
-  pub sound : Sound (destIn s p) (p .dest .slots) (p .dest .series) (p .dest .interval)
-  pub some-interval : 0 < p .dest .interval
+  pub sound : Sound (destIn s p) (p .dest .sizes .slots) (p .dest .sizes .series) (p .dest .sizes .interval)
+  pub some-interval : 0 < p .dest .sizes .interval
   pub end-low : p .reading .end < 2 ^ 64
-  pub same-series : p .dest .series ≡ p .reading .series
+  pub same-series : p .dest .sizes .series ≡ p .reading .series
 
 -- slots of the source s that have all of a window
 pub record Covers (s : List ℕ) (q : Reading) (window : ℕ) (place : Place) : Type 0 where

@@ -36,7 +36,8 @@ fn fill_column(
     let d = p.dest;
     let start = d.from;
     let end = d.to;
-    answers::write_answer(&mut image[start..end], d, x, filling, window, column)
+    let z = d.sizes;
+    answers::write_answer(&mut image[start..end], z, x, filling, window, column)
 }
 
 // Every column of a window, read from slots that have all of it.

@@ -13,9 +13,7 @@ ghost use Rattle.lent.specs.Parts.{SlabAt, finestOf, withFlag};
 pub struct Slab {
     pub from: usize,
     pub to: usize,
-    pub slots: usize,
-    pub series: usize,
-    pub interval: u64,
+    pub sizes: ring::Sizes,
 }
 
 // The row of a handle's finest tier; none where the schema or the column is out of bounds.
@@ -46,19 +44,22 @@ fn row_u64(image: &[u8], row: usize, at: usize) -> u64
 pub fn slab_at(image: &[u8], row: usize) -> Slab
     requires { ⌜ openCheck (now image) ≡ 0 ⌝ }
     requires { ⌜ row < rowCount (now image) ⌝ }
-    ensures { λ r. ⌜ SlabAt (now (image .entry)) row (r .from) (r .to) (r .slots) (r .series) (r .interval) ⌝ }
+    ensures { λ r. ⌜ SlabAt (now (image .entry)) row (r .from) (r .to) (r .sizes .slots) (r .sizes .series) (r .sizes .interval) ⌝ }
 {
     let interval = row_u64(image, row, format::ROW_INTERVAL);
     let series = row_u32(image, row, format::ROW_SERIES) as usize;
     let from = row_u64(image, row, format::ROW_OFFSET) as usize;
     let len = row_u64(image, row, format::ROW_LENGTH) as usize;
     let slots = field::get_u32(image, from + format::SLAB_SLOTS) as usize;
-    Slab {
-        from: from,
-        to: from + len,
+    let sizes = ring::Sizes {
         slots: slots,
         series: series,
         interval: interval,
+    };
+    Slab {
+        from: from,
+        to: from + len,
+        sizes: sizes,
     }
 }
 

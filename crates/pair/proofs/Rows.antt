@@ -26,7 +26,7 @@ use Rattle.source.specs.Parts.{readingOf}
 use Rattle.pair.specs.Parts.{Adjacent, PairAt}
 
 abbrev pub RowSlab : List ℕ → ℕ → Slab → Type 0
-RowSlab s i d = SlabAt s i (d .from) (d .to) (d .slots) (d .series) (d .interval)
+RowSlab s i d = SlabAt s i (d .from) (d .to) (d .sizes .slots) (d .sizes .series) (d .sizes .interval)
 
 -- ---- the rows
 
@@ -58,7 +58,7 @@ slab-part {s} {i} {d} h = let l : d .to - d .from ≡ rowAt s i .len = omega (ar
 
 -- the test of its stamps
 pub stamps-part : {s : List ℕ} {i : ℕ} {d : Slab} → RowSlab s i d
-    → stampsBelow (part s (d .from) (d .to - d .from)) 0 (d .slots) ≡ stampsBelow (slabOf s (rowAt s i)) 0 (slots (slabOf s (rowAt s i)))
+    → stampsBelow (part s (d .from) (d .to - d .from)) 0 (d .sizes .slots) ≡ stampsBelow (slabOf s (rowAt s i)) 0 (slots (slabOf s (rowAt s i)))
 stamps-part {s} {i} {d} h = rw (slab-part h, h .sound .slots-is)
 
 -- cells of a slab are fewer than its bytes, and so at most 2^40
@@ -73,8 +73,8 @@ module _ (s : List ℕ) (i : ℕ) (h : Adjacent s i) (flags : Flags) (f : Consol
   apart : d .to ≤ next .from
   apart = omega (arith, a .from-is, a .to-is, b .from-is, slabs-apart s (good s i h) i here (suc i) (omega arith) (h .next-in))
 
-  few : d .series * d .slots ≤ 2 ^ 40
-  few = few-cells (d .slots) (d .series) (2 ^ 40) (rw (a .slots-is, a .series-is) short)
+  few : d .sizes .series * d .sizes .slots ≤ 2 ^ 40
+  few = few-cells (d .sizes .slots) (d .sizes .series) (2 ^ 40) (rw (a .slots-is, a .series-is) short)
     where
       short : slabLength (rowSlots (rowAt s i)) (rowAt s i .series) ≤ 2 ^ 40
       short = unfold rowLength in
@@ -82,7 +82,7 @@ module _ (s : List ℕ) (i : ℕ) (h : Adjacent s i) (flags : Flags) (f : Consol
 
   -- with what was read of the source
   pub pair-at : {w : Bool} {q : Reading} → w ≡ getD (flags .wrapped) i false
-      → q ≡ readingOf (part s (d .from) (d .to - d .from)) d w (rowAt s i .mark) f (next .interval) → q .end < 2 ^ 64
+      → q ≡ readingOf (part s (d .from) (d .to - d .from)) (d .sizes) w (rowAt s i .mark) f (next .sizes .interval) → q .end < 2 ^ 64
       → PairAt s flags i f (record { from = d .from; to = d .to; reading = q; dest = next })
   unfolding readingOf C.jobOf ring row
   pair-at {w} {q} e k l = rw k (record {

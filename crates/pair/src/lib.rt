@@ -31,7 +31,9 @@ fn pair_at(image: &[u8], flags: model::Flags, row: usize, f: model::Consolidatio
     let wrapped = lent::flag(flags, row);
     let from = d.from;
     let to = d.to;
-    let reading = source::reading_of(&image[from..to], d, wrapped, r.mark, f, next.interval);
+    let z = d.sizes;
+    let coarse = next.sizes;
+    let reading = source::reading_of(&image[from..to], z, wrapped, r.mark, f, coarse.interval);
     fill::Pair {
         from: from,
         to: to,
@@ -115,7 +117,8 @@ pub fn pair(image: &mut [u8], u: Progress, row: usize) -> Progress
     let d = lent::slab_at(image, row);
     let from = d.from;
     let to = d.to;
-    let good = source::stamps_below(&image[from..to], d.slots, d.series);
+    let z = d.sizes;
+    let good = source::stamps_below(&image[from..to], z.slots, z.series);
     if !good {
         return Progress {
             flags: flags,

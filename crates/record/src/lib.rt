@@ -33,11 +33,7 @@ pub fn store(
     let slab = lent::slab_at(image, row);
     let from = slab.from;
     let to = slab.to;
-    let z = ring::Sizes {
-        slots: slab.slots,
-        series: slab.series,
-        interval: slab.interval,
-    };
+    let z = slab.sizes;
     write::write(&mut image[from..to], z, column, value, stamp, wrapped)
 }
 

@@ -6,14 +6,14 @@ use Rattle.model.specs.declared.ConsolidationFn.{ConsolidationFn}
 use Rattle.model.specs.Ring.{newest}
 use Rattle.model.specs.Consolidate.{startOf, endAfter}
 use Rattle.ring.specs.Parts.{ringOf}
-use Rattle.lent.specs.declared.Slab.{Slab}
+use Rattle.ring.specs.declared.Sizes.{Sizes}
 use Rattle.window.specs.declared.Reading.{Reading}
 
--- of the slab s of a row d, for windows of this length
-unfoldable pub readingOf : List ℕ → Slab → Bool → (mark : ℕ) → ConsolidationFn → (long : ℕ) → Reading
-readingOf s d w mark f long = record {
-  slots = d .slots;
-  series = d .series;
+-- of the slab s with sizes z, for windows of this length
+unfoldable pub readingOf : List ℕ → Sizes → Bool → (mark : ℕ) → ConsolidationFn → (long : ℕ) → Reading
+readingOf s z w mark f long = record {
+  slots = z .slots;
+  series = z .series;
   wrapped = w;
   function = f;
   long = long;

@@ -63,37 +63,37 @@ fn end_after(newest: model::End) -> u64
 }
 
 // Where the reading starts: at the oldest stamp without a mark, else at the start of the window, `long` long, that holds the mark.
-fn start_of(slab: &[u8], d: lent::Slab, wrapped: bool, mark: u64, long: u64) -> u64
-    requires { ⌜ Sound (now slab) (d .slots) (d .series) (d .interval) ⌝ }
+fn start_of(slab: &[u8], z: ring::Sizes, wrapped: bool, mark: u64, long: u64) -> u64
+    requires { ⌜ Sound (now slab) (z .slots) (z .series) (z .interval) ⌝ }
     requires { ⌜ 0 < long ⌝ }
     ensures { λ r. ⌜ r ≡ startOf mark long (ringOf (now (slab .entry)) wrapped) ⌝ }
 {
     if mark != 0 {
         return window::window_of(long, mark);
     }
-    let oldest = ends::oldest(slab, d.slots, d.series, wrapped);
+    let oldest = ends::oldest(slab, z.slots, z.series, wrapped);
     or_zero(oldest)
 }
 
 // The reading of a source whose stamps are all good.
 pub fn reading_of(
     slab: &[u8],
-    d: lent::Slab,
+    z: ring::Sizes,
     wrapped: bool,
     mark: u64,
     f: model::ConsolidationFn,
     long: u64,
 ) -> window::Reading
-    requires { ⌜ Sound (now slab) (d .slots) (d .series) (d .interval) ⌝ }
-    requires { ⌜ (0 < long) × (stampsBelow (now slab) 0 (d .slots) ≡ true) ⌝ }
-    ensures { λ r. ⌜ (r ≡ readingOf (now (slab .entry)) d wrapped mark f long) × (r .end < 2 ^ 64) ⌝ }
+    requires { ⌜ Sound (now slab) (z .slots) (z .series) (z .interval) ⌝ }
+    requires { ⌜ (0 < long) × (stampsBelow (now slab) 0 (z .slots) ≡ true) ⌝ }
+    ensures { λ r. ⌜ (r ≡ readingOf (now (slab .entry)) z wrapped mark f long) × (r .end < 2 ^ 64) ⌝ }
 {
-    let newest = ends::newest(slab, d.slots, d.series, wrapped);
+    let newest = ends::newest(slab, z.slots, z.series, wrapped);
     let end = end_after(newest);
-    let start = start_of(slab, d, wrapped, mark, long);
+    let start = start_of(slab, z, wrapped, mark, long);
     window::Reading {
-        slots: d.slots,
-        series: d.series,
+        slots: z.slots,
+        series: z.series,
         wrapped: wrapped,
         function: f,
         long: long,

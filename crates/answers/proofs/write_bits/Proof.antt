@@ -54,8 +54,8 @@ returns-2 c =
 write-requires : tie.Need-write-requires
 write-requires c κs = let a = start (tested (c .before)) in (a .pre .sound, (a .pre .some-interval, a .pre .column-in))
 
-add-t20 : tie.Need-add-t20
-add-t20 c = search needs
+add-t19 : tie.Need-add-t19
+add-t19 c = search needs
 
 same-length : tie.Need-same-length
 same-length c = search needs
@@ -77,6 +77,6 @@ write-bits-spec =
     is-good-stamp-requires
     returns-2
     write-requires
-    add-t20
+    add-t19
     same-length
     returns-3)

@@ -25,7 +25,7 @@ abbrev at-row : tie.After-slab-at → tie.After-first-row
 at-row c = c .before .before
 
 abbrev at-slab : tie.After-flag-at → tie.After-slab-at
-at-slab c = c .before
+at-slab c = c .before .before
 
 abbrev at-flag : tie.After-slice-known2 → tie.After-flag-at
 at-flag c = c .before .before .before .before

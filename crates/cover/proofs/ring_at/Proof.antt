@@ -5,6 +5,10 @@ use borrow.Author.Needs.{needs}
 use Rattle.cover.proofs.ring_at.Statement.{statement}
 use Rattle.cover.proofs.ring_at.Tie as tie
 
+-- where both ends and the place are asked for; the slab's sizes are known
+abbrev at-slab : tie.After-z → tie.After-slab-at
+at-slab c = c .before .before
+
 slab-at-requires : tie.Need-slab-at-requires
 slab-at-requires c κs = search needs
 
@@ -18,18 +22,19 @@ part-slab-end : tie.Need-part-slab-end
 part-slab-end c = search needs
 
 oldest-requires : tie.Need-oldest-requires
-oldest-requires c κs = part-sized (c .before .slab-at .ensures)
+oldest-requires c κs = part-sized (at-slab c .slab-at .ensures)
 
 newest-requires : tie.Need-newest-requires
-newest-requires c κs = part-sized (c .before .before .slab-at .ensures)
+newest-requires c κs = part-sized (at-slab (c .before) .slab-at .ensures)
 
 first-place-requires : tie.Need-first-place-requires
-first-place-requires c κs = part-sized (c .before .before .before .slab-at .ensures)
+first-place-requires c κs = part-sized (at-slab (c .before .before) .slab-at .ensures)
 
 returns : tie.Need-returns
 returns c =
     let b = c .before .before in
-    reached (b .before .before .slab-at .ensures) (b .before .before .before .before .args .wrapped) (b .oldest .ensures) (c .before .newest .ensures) (c .first-place .ensures .0)
+    let k = at-slab (b .before) in
+    reached (k .slab-at .ensures) (k .before .before .args .wrapped) (b .oldest .ensures) (c .before .newest .ensures) (c .first-place .ensures .0)
 
 pub ring-at-spec : {M : Type 1} → statement M
 ring-at-spec =

@@ -12,7 +12,7 @@ abbrev start : tie.After-answer-arg → tie.Start
 start c = c .before .before .before .before
 
 abbrev answered : tie.After-write-answer-arg → tie.After-answer
-answered c = c .before .before
+answered c = c .before .before .before
 
 sub-answer : tie.Need-sub-answer
 sub-answer c = search needs
@@ -33,10 +33,10 @@ sub-write-answer : tie.Need-sub-write-answer
 sub-write-answer c = search needs
 
 part-write-answer-start : tie.Need-part-write-answer-start
-part-write-answer-start c = start (c .before .before) .pre .0 .0 .dest-forth
+part-write-answer-start c = start (c .before .before .before) .pre .0 .0 .dest-forth
 
 part-write-answer-end : tie.Need-part-write-answer-end
-part-write-answer-end c = start (c .before .before) .pre .0 .0 .inside
+part-write-answer-end c = start (c .before .before .before) .pre .0 .0 .inside
 
 write-answer-requires : tie.Need-write-answer-requires
 unfolding part

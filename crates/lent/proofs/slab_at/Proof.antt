@@ -37,8 +37,8 @@ add-get-u32 c = omega (arith, long (start c), inside (start c))
 get-u32-requires : tie.Need-get-u32-requires
 get-u32-requires c κs = omega (arith, long (start c), inside (start c))
 
-add-t9 : tie.Need-add-t9
-add-t9 c = omega (arith, inside (start (c .before)))
+add-t10 : tie.Need-add-t10
+add-t10 c = omega (arith, inside (start (c .before)))
 
 returns : tie.Need-returns
 returns c =
@@ -56,5 +56,5 @@ slab-at-spec =
     row-u64-requires-3
     add-get-u32
     get-u32-requires
-    add-t9
+    add-t10
     returns)

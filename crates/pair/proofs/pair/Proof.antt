@@ -26,7 +26,7 @@ abbrev told : tie.After-slab-at → tie.After-function
 told c = c .before .before .before
 
 abbrev slab : tie.After-stamps-below → tie.After-slab-at
-slab c = c .before .before .before
+slab c = c .before .before .before .before
 
 -- the function by the definition, and the test of the stamps
 function : (c : tie.After-function-of) → let a = start (row c) .args in c .function-of .result ≡ functionNo (rowAt (a .image .now) (suc (a .row)) .function)
@@ -76,7 +76,7 @@ part-stamps-below-end c = search needs
 
 stamps-below-requires : tie.Need-stamps-below-requires
 unfolding part
-stamps-below-requires c κs = rw (slab-part (c .before .before .slab-at .ensures)) (sized (c .before .before .slab-at .ensures .sound))
+stamps-below-requires c κs = let d = c .before .before .before .slab-at .ensures in rw (slab-part d) (sized (d .sound))
 
 same-length-2 : tie.Need-same-length-2
 same-length-2 c = search needs

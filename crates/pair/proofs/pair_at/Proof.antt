@@ -9,6 +9,16 @@ use borrow.Author.Needs.{needs}
 use Rattle.pair.proofs.pair_at.Statement.{statement}
 use Rattle.pair.proofs.pair_at.Tie as tie
 
+-- both slabs, the row and its flag are read, then the sizes; back from the sizes
+abbrev flagged : tie.After-coarse → tie.After-flag
+flagged c = c .before .before
+
+abbrev source : tie.After-flag → tie.After-slab-at
+source c = c .before .before .before
+
+abbrev start : tie.After-slab-at → tie.Start
+start c = c .before .before
+
 slab-at-requires : tie.Need-slab-at-requires
 slab-at-requires c κs = search needs
 
@@ -37,19 +47,19 @@ part-reading-of-end c = search needs
 reading-of-requires : tie.Need-reading-of-requires
 unfolding part
 reading-of-requires c κs =
-    let called = c .before .before .before .before .before .before in
-    let d = c .before .before .before .before .slab-at .ensures in
-    (rw (slab-part d) (d .sound), (c .before .before .before .slab-at2 .ensures .some-interval, stamps-part d ∙ called .pre .1))
+    let k = flagged (c .before) in
+    let d = source k .slab-at .ensures in
+    (rw (slab-part d) (d .sound), (k .before .before .slab-at2 .ensures .some-interval, stamps-part d ∙ start (source k) .pre .1))
 
 returns : tie.Need-returns
 unfolding part
 returns c =
-    let called = c .before .before .before .before .before .before .before in
+    let k = flagged (c .before .before) in
+    let called = start (source k) in
     let a = called .args in
-    let d = c .before .before .before .before .before .slab-at .ensures in
-    let next = c .before .before .before .before .slab-at2 .ensures in
-    let r = c .before .before .before .row-at .ensures in
-    pair-at (a .image .now) (a .row) (called .pre .0) (a .flags) (a .f) d (rw (add-one (a .row)) at next) (c .before .before .flag .ensures)
+    let next = k .before .before .slab-at2 .ensures in
+    let r = k .before .row-at .ensures in
+    pair-at (a .image .now) (a .row) (called .pre .0) (a .flags) (a .f) (source k .slab-at .ensures) (rw (add-one (a .row)) at next) (k .flag .ensures)
     (rw r at (c .reading-of .ensures .0)) (c .reading-of .ensures .1)
 
 pub pair-at-spec : {M : Type 1} → statement M

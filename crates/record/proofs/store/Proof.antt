@@ -7,7 +7,7 @@ use Rattle.record.proofs.store.Statement.{statement}
 use Rattle.record.proofs.store.Tie as tie
 
 abbrev at-slab : tie.After-slice-known2 → tie.After-slab-at
-at-slab c = c .before .before .before .before
+at-slab c = c .before .before .before .before .before
 
 slab-at-requires : tie.Need-slab-at-requires
 slab-at-requires c κs = search needs
@@ -22,7 +22,7 @@ part-write-end : tie.Need-part-write-end
 part-write-end c = search needs
 
 write-requires : tie.Need-write-requires
-write-requires c κs = (lent-sound (c .before .slab-at .ensures), (c .before .slab-at .ensures .some-interval, omega arith))
+write-requires c κs = (lent-sound (c .before .before .slab-at .ensures), (c .before .before .slab-at .ensures .some-interval, omega arith))
 
 same-length : tie.Need-same-length
 same-length c = search needs
