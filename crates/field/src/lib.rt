@@ -117,5 +117,5 @@ pub fn is_nan(bits: u64) -> bool
 pub fn is_good_stamp(stamp: u64) -> bool
     ensures { λ r. ⌜ r ≡ stampOk stamp ⌝ }
 {
-    0 < stamp && stamp < 0x8000_0000_0000_0000
+    0 < stamp && stamp < format::TOP
 }
