@@ -1,7 +1,7 @@
 // A window's answer written to the destination: no value writes nothing, a number writes its pattern, NaN because nothing finite remained writes the one NaN
 // that document 01 names. A write tests 12, then 13; a refusal leaves the slab and ends the filling.
 ghost use mathlib.Core.Path.{_≡_};
-ghost use Prim.Native.Nat.{_+_, _<_, _≤_};
+ghost use Prim.Native.Nat.{_+_, _≤_};
 ghost use Rattle.model.specs.Consolidate.{writeBits, writeAnswer};
 ghost use Rattle.rings.specs.Sound.{Sound};
 ghost use Rattle.window.specs.Parts.{Fine};

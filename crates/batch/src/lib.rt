@@ -5,7 +5,6 @@ ghost use mathlib.Core.Bool.{true};
 ghost use Prim.Native.Nat.{_<_};
 ghost use Rattle.model.specs.Words.{outcomeNo};
 ghost use Rattle.model.specs.Image.{schemas, openCheck};
-ghost use Rattle.model.specs.Lent.{Lent};
 ghost use Rattle.model.specs.Record.{entries, entriesOf, everyEntry, writeTo, writeSchemas};
 ghost use Rattle.lent.specs.Parts.{lentOf};
 ghost use Rattle.bits.specs.One.{lentAt};

@@ -4,10 +4,9 @@ use native.Mathlib.Omega.{arith}
 use native.Mathlib.Nat.{one-mul, pow-zero, pow-succ', pow-le-pow-right, mod-eq-of-lt, max-comm, max-eq-left, max-zero}
 use mathlib.Core.Path.{_≡_, refl, sym, ap, _∙_}
 use mathlib.Core.Bool.{Bool, true, false}
-use mathlib.Core.List.{List, _∷_}
+use mathlib.Core.List.{List}
 use lib.ListN.{getD, set}
 use lib.Seq.{set-getD}
-use lib.Dec.{eqb}
 use lib.Bits.{bitOr, or-step, or-zero-r}
 use Rattle.model.specs.Lent.{Lent}
 use Rattle.bits.specs.Bits.{bits}

@@ -11,5 +11,5 @@ abbrev pub fresh : List ℕ → Flags → Run
 fresh s flags = record { lent = lentOf s flags; count = 0; refusal = 0 }
 
 -- answer, every byte, every flag
-abbrev pub doneOf : List ℕ → Consolidation → Done
-doneOf s r = record { reply = consolidatedReply (r .answer); lent = lentOf s (r .flags) }
+abbrev pub runDone : List ℕ → Consolidation → Done
+runDone s r = record { reply = consolidatedReply (r .answer); lent = lentOf s (r .flags) }

@@ -9,7 +9,7 @@ ghost use Rattle.model.specs.Consolidate.{pairs};
 ghost use Rattle.model.specs.Store.{call, consolidateCall, wroteOr, consolidatedReply};
 ghost use Rattle.lent.specs.Parts.{lentOf};
 ghost use Rattle.pair.specs.Parts.{runOf};
-ghost use Rattle.consolidate.specs.Parts.{fresh, doneOf};
+ghost use Rattle.consolidate.specs.Parts.{fresh, runDone};
 
 // The answer, and the flags after the call.
 pub struct Consolidation {
@@ -68,7 +68,7 @@ fn answer_of(outcome: model::Outcome, count: u64) -> model::Consolidated
 
 // Consolidates every pair.
 pub fn consolidate(image: &mut [u8], flags: model::Flags) -> Consolidation
-    ensures { λ r. ⌜ doneOf (now (image .exit)) r ≡ call (lentOf (now (image .entry)) flags) consolidateCall ⌝ }
+    ensures { λ r. ⌜ runDone (now (image .exit)) r ≡ call (lentOf (now (image .entry)) flags) consolidateCall ⌝ }
 {
     let opened = checked::check_image(image);
     let model::Outcome::Accepted = opened else {

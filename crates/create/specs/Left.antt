@@ -1,14 +1,13 @@
 -- What creation leaves, by the way that its check went. Assumes nothing.
 use Prim.Native.Nat.{ℕ, zero, suc, _≤_, _<_}
-use native.Mathlib.Omega.{arith}
-use mathlib.Core.Path.{_≡_, refl, sym, ap, _∙_}
-use mathlib.Core.Bool.{Bool, true, false, _&&_}
-use mathlib.Core.List.{List, [], _∷_, _++_}
+use mathlib.Core.Path.{_≡_, refl, sym, _∙_}
+use mathlib.Core.Bool.{Bool, false}
+use mathlib.Core.List.{List, _++_}
 use lib.ListN.{length, drop, replicate}
 use lib.Dec.{leb}
 use borrow.Author.Tests.{le-leb, lt-leb}
 use Rattle.model.specs.Bytes.{get}
-use Rattle.model.specs.Image.{unless, shape, rowCount, imageLength, planCheck, createCheck, freshImage}
+use Rattle.model.specs.Image.{unless, rowCount, imageLength, planCheck, createCheck, freshImage}
 use Rattle.model.specs.Lent.{Lent, createOn, creation}
 use Rattle.rows.specs.First.{first-stop, first-on, first-one, unless-on, unless-stop}
 

@@ -23,7 +23,7 @@ use Rattle.record.specs.Done.{RecordDone}
 use Rattle.batch.specs.Done.{BatchDone}
 use Rattle.bits.specs.Bits.{bits, bitOf}
 use Rattle.bits.specs.One.{lentAt}
-use Rattle.edge.specs.Edge.{doneAs, unlessRefused, replyNo, countOn, endNo, foundWords, queryNo, queryWords, queriedNo, queriedWords, placeWords, nextNo, pointWords}
+use Rattle.edge.specs.Edge.{doneAs, storedUnlessRefused, replyNo, countOn, endNo, foundWords, queryNo, queryWords, queriedNo, queriedWords, placeWords, nextNo, pointWords}
 
 -- ---- the flags cross as a number
 
@@ -75,13 +75,13 @@ module _ (s t : List ℕ) (x y : ℕ) (a : Consolidated) where
 
 -- ---- a number that a refusal leaves
 
-pub left-alone : (n old new : ℕ) → (n ≡ 0 → ⊥) → old ≡ unlessRefused n old new
-unfolding unlessRefused
+pub left-alone : (n old new : ℕ) → (n ≡ 0 → ⊥) → old ≡ storedUnlessRefused n old new
+unfolding storedUnlessRefused
 left-alone zero old new h = absurd (h refl)
 left-alone (suc n) old new h = refl
 
-pub set-anew : (n old new : ℕ) → n ≡ 0 → new ≡ unlessRefused n old new
-unfolding unlessRefused
+pub set-anew : (n old new : ℕ) → n ≡ 0 → new ≡ storedUnlessRefused n old new
+unfolding storedUnlessRefused
 set-anew n old new h = rw h
 
 -- ---- a query's answer, as the code has it and as the model has it

@@ -1,7 +1,6 @@
 -- The words of the edge's contracts, where flags are one number and answers are numbers: what a call is lent, how it is done, the size that a plan needs, a
 -- query's answer, a reader's step. Assumes nothing.
 use Prim.Native.Nat.{ℕ, zero, suc}
-use mathlib.Core.Bool.{Bool}
 use mathlib.Core.List.{List, [], _∷_}
 use lib.ListN.{getD}
 use Rattle.model.specs.declared.End.{End}
@@ -15,7 +14,7 @@ use Rattle.model.specs.declared.Queried.{Queried}
 use Rattle.model.specs.declared.Queried.the-variants as Q
 use Rattle.model.specs.Words.{numberOf}
 use Rattle.model.specs.Lent.{Lent}
-use Rattle.model.specs.Query.{Answered, QueryReply, found, notFound}
+use Rattle.model.specs.Query.{QueryReply, found, notFound}
 use Rattle.model.specs.Read.{step}
 use Rattle.model.specs.Store.{Done, Reply, refused, done, wrote, read, doneOr}
 use Rattle.bits.specs.Bits.{bitOf}
@@ -26,9 +25,9 @@ abbrev pub doneAs : ℕ → Lent → Done
 doneAs n l = record { reply = doneOr n; lent = l }
 
 -- the old number where n is a refusal's, else the new one
-unfoldable pub unlessRefused : ℕ → ℕ → ℕ → ℕ
-unlessRefused zero old new = new
-unlessRefused (suc n) old new = old
+unfoldable pub storedUnlessRefused : ℕ → ℕ → ℕ → ℕ
+storedUnlessRefused zero old new = new
+storedUnlessRefused (suc n) old new = old
 
 -- ---- consolidation's answer
 

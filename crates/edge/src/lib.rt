@@ -4,7 +4,6 @@ ghost use mathlib.Core.Path.{_≡_};
 ghost use Prim.Native.Nat.{_/_};
 ghost use lib.ListN.{length};
 ghost use lib.Seq.{sets};
-ghost use Rattle.model.specs.Words.{outcomeNo};
 ghost use Rattle.model.specs.Image.{planCheck, imageLength, createCheck, openCheck};
 ghost use Rattle.model.specs.Lent.{creation, opening};
 ghost use Rattle.model.specs.Record.{entries};
@@ -13,12 +12,12 @@ ghost use Rattle.model.specs.Store.{call, recordCall, batchCall, consolidateCal
 ghost use Rattle.bits.specs.Bits.{bitOf};
 ghost use Rattle.bits.specs.One.{lentAt};
 ghost use Rattle.fetch.specs.Fetch.{words};
-ghost use Rattle.edge.specs.Edge.{doneAs, unlessRefused, replyNo, countOn, endNo, foundWords, queriedNo, queriedWords, queryNo, queryWords, stepAt, placeWords, nextNo, pointWords, fetchAt};
+ghost use Rattle.edge.specs.Edge.{doneAs, storedUnlessRefused, replyNo, countOn, endNo, foundWords, queriedNo, queriedWords, queryNo, queryWords, stepAt, placeWords, nextNo, pointWords, fetchAt};
 
 // The size of the image that a plan needs. A refused plan leaves `size`.
 #[no_mangle]
 pub extern "C" fn rondo_image_size(plan: &[u8], size: &mut u64) -> u32
-    ensures { λ r. ⌜ (r ≡ planCheck (now (plan .entry))) × (now (size .exit) ≡ unlessRefused (planCheck (now (plan .entry))) (now (size .entry)) (imageLength (now (plan .entry)))) ⌝ }
+    ensures { λ r. ⌜ (r ≡ planCheck (now (plan .entry))) × (now (size .exit) ≡ storedUnlessRefused (planCheck (now (plan .entry))) (now (size .entry)) (imageLength (now (plan .entry)))) ⌝ }
 {
     let checked = image::check_plan(plan);
     let model::Outcome::Accepted = checked else {

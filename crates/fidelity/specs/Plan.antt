@@ -96,12 +96,12 @@ module _ {p buf : List ℕ} (ok : Planned p buf) where
       some (suc r) e = omega arith
 
   -- the coarsest interval in intervals of tier k, from the coarsest tier down
-  record Whole (k : ℕ) : Type 0 where
+  record InIntervals (k : ℕ) : Type 0 where
     many : ℕ
     whole : coarsestOf p ≡ many * rowAt p k .interval
     some : 0 < many
 
-  down : (j k : ℕ) → suc (k + j) ≡ rowCount p → Whole k
+  down : (j k : ℕ) → suc (k + j) ≡ rowCount p → InIntervals k
   down zero k e =
       let f : rowCount p - 1 ≡ k = omega arith in
       record { many = 1; whole = ap (λ (v : ℕ). rowAt p v .interval) f ∙ omega arith; some = omega arith }
@@ -114,11 +114,11 @@ module _ {p buf : List ℕ} (ok : Planned p buf) where
         some = mul-pos (u .some) (ratio-in k h .0);
       }
 
-  per-whole : (k : ℕ) (h : k < rowCount p) (w : Whole k) → per p k ≡ w .many
+  per-whole : (k : ℕ) (h : k < rowCount p) (w : InIntervals k) → per p k ≡ w .many
   unfolding per
   per-whole k h w = ap (λ (v : ℕ). v / rowAt p k .interval) (w .whole) ∙ mul-div-cancel (w .many) (long k h)
 
-  at : (k : ℕ) → k < rowCount p → Whole k
+  at : (k : ℕ) → k < rowCount p → InIntervals k
   at k h = down (rowCount p - suc k) k (omega arith)
 
   pub coarsest-is : (k : ℕ) → k < rowCount p → coarsestOf p ≡ per p k * rowAt p k .interval

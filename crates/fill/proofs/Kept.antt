@@ -17,7 +17,7 @@ use Rattle.window.specs.Parts.{Readable, jobIn}
 use Rattle.answers.specs.declared.Filling.{Filling}
 use Rattle.answers.specs.Parts.{filledOf}
 use Rattle.fill.specs.declared.Pair.{Pair}
-use Rattle.fill.specs.Parts.{sourceIn, destIn, jobOf, filledIn, Lies, Covers, Keeps}
+use Rattle.fill.specs.Parts.{sourceIn, destIn, pairJob, filledIn, Lies, Covers, Keeps}
 
 -- of two splices in one place the last counts
 splice-again : (s x y : List ℕ) (o : ℕ) → length x ≡ length y → splice (splice s o x) o y ≡ splice s o y
@@ -70,9 +70,9 @@ module _ (s : List ℕ) (p : Pair) (h : Lies s p) where
 
   -- one answer written
   pub column-filled : (ys : List ℕ) → length ys ≡ p .dest .to - p .dest .from → (filling r : Filling) (w c : ℕ) {x : WindowAnswer}
-      → x ≡ windowAnswer (jobOf s p) w c → filledOf ys r ≡ writeAnswer x (filledIn s p filling) w c
+      → x ≡ windowAnswer (pairJob s p) w c → filledOf ys r ≡ writeAnswer x (filledIn s p filling) w c
       → Sound ys (p .dest .sizes .slots) (p .dest .sizes .series) (p .dest .sizes .interval)
-      → (filledIn (putMid (p .dest .from) (p .dest .to - p .dest .from) s ys) p r ≡ writeAnswer (windowAnswer (jobOf s p) w c) (filledIn s p filling) w c)
+      → (filledIn (putMid (p .dest .from) (p .dest .to - p .dest .from) s ys) p r ≡ writeAnswer (windowAnswer (pairJob s p) w c) (filledIn s p filling) w c)
       × Keeps s (putMid (p .dest .from) (p .dest .to - p .dest .from) s ys) p
   column-filled ys l filling r w c e f k =
       let z = lent-splice s (p .dest .from) (p .dest .to - p .dest .from) ys (omega (arith, h .dest-forth, h .inside)) l in
@@ -89,7 +89,7 @@ keeps-then s t u p h a b = record {
 }
 
 -- the same job after a step, as the source's bytes did not change
-pub job-kept : (s t : List ℕ) (p : Pair) → Keeps s t p → jobOf t p ≡ jobOf s p
+pub job-kept : (s t : List ℕ) (p : Pair) → Keeps s t p → pairJob t p ≡ pairJob s p
 job-kept s t p k = ap (λ (x : List ℕ). jobIn x (p .reading)) (k .source-is)
 
 -- and the same slots have all of the window

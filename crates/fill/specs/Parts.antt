@@ -22,8 +22,8 @@ sourceIn s p = part s (p .from) (p .to - p .from)
 abbrev pub destIn : List ℕ → Pair → List ℕ
 destIn s p = part s (p .dest .from) (p .dest .to - p .dest .from)
 
-abbrev pub jobOf : List ℕ → Pair → Job
-jobOf s p = jobIn (sourceIn s p) (p .reading)
+abbrev pub pairJob : List ℕ → Pair → Job
+pairJob s p = jobIn (sourceIn s p) (p .reading)
 
 abbrev pub filledIn : List ℕ → Pair → Filling → Filled
 filledIn s p r = filledOf (destIn s p) r
@@ -48,7 +48,7 @@ pub record Covers (s : List ℕ) (q : Reading) (window : ℕ) (place : Place) : 
   pub same : (c : ℕ) → windowAnswer (jobIn s q) window c ≡ along (jobIn s q) window c (walk (q .slots) (place .slot) (place .left))
 
 -- the whole reading order
-pub record Whole (s : List ℕ) (q : Reading) (place : Place) : Type 0 where
+pub record WholeOrder (s : List ℕ) (q : Reading) (place : Place) : Type 0 where
   pub slot-in : place .slot < q .slots
   pub few-left : place .left ≤ q .slots
   pub order-is : walk (q .slots) (place .slot) (place .left) ≡ order (jobIn s q .source)

@@ -5,7 +5,7 @@ ghost use Prim.Native.Nat.{_+_, _<_, _≤_, _^_};
 ghost use Rattle.model.specs.declared.Outcome.the-variants.{Accepted};
 ghost use Rattle.model.specs.Window.{windowAnswer};
 ghost use Rattle.model.specs.Consolidate.{writeAnswer, fillWindow};
-ghost use Rattle.fill.specs.Parts.{Lies, Covers, Keeps, sourceIn, jobOf, filledIn};
+ghost use Rattle.fill.specs.Parts.{Lies, Covers, Keeps, sourceIn, pairJob, filledIn};
 
 // A pair: where the source stands in the image and what is read of it, and the destination.
 pub struct Pair {
@@ -26,7 +26,7 @@ fn fill_column(
 ) -> answers::Filling
     requires { ⌜ Lies (now image) p × Covers (sourceIn (now image) p) (p .reading) window place ⌝ }
     requires { ⌜ (column < p .reading .series) × (filling .writes < 2 ^ 63) ⌝ }
-    ensures { λ r. ⌜ filledIn (now (image .exit)) p r ≡ writeAnswer (windowAnswer (jobOf (now (image .entry)) p) window column) (filledIn (now (image .entry)) p filling) window column ⌝ }
+    ensures { λ r. ⌜ filledIn (now (image .exit)) p r ≡ writeAnswer (windowAnswer (pairJob (now (image .entry)) p) window column) (filledIn (now (image .entry)) p filling) window column ⌝ }
     ensures { λ r. ⌜ Keeps (now (image .entry)) (now (image .exit)) p × (r .writes ≤ filling .writes + 1) ⌝ }
 {
     let q = p.reading;
@@ -50,7 +50,7 @@ pub fn fill_window(
 ) -> answers::Filling
     requires { ⌜ Lies (now image) p × Covers (sourceIn (now image) p) (p .reading) window place ⌝ }
     requires { ⌜ (filling .outcome ≡ Accepted) × (filling .writes + p .reading .series ≤ 2 ^ 63) ⌝ }
-    ensures { λ r. ⌜ filledIn (now (image .exit)) p r ≡ fillWindow (jobOf (now (image .entry)) p) (filledIn (now (image .entry)) p filling) window 0 (p .reading .series) ⌝ }
+    ensures { λ r. ⌜ filledIn (now (image .exit)) p r ≡ fillWindow (pairJob (now (image .entry)) p) (filledIn (now (image .entry)) p filling) window 0 (p .reading .series) ⌝ }
     ensures { λ r. ⌜ Keeps (now (image .entry)) (now (image .exit)) p × (r .writes ≤ filling .writes + p .reading .series) ⌝ }
 {
     let q = p.reading;

@@ -17,7 +17,7 @@ use Rattle.model.specs.Record.{recordCheck, recordOn, Entry, batchCheck, batchO
 use Rattle.model.specs.Consolidate.{runOn, run}
 use Rattle.model.specs.Store.{Call, Deed, reads, records, recordsAll, runs, opens, deed, doing, finished, call, after}
 use Rattle.frame.specs.Recorded.{handle-in, record-zero}
-use Rattle.frame.specs.Good.{Good, Kept, count-kept, imageLength-kept, open-good, good-open}
+use Rattle.frame.specs.Good.{Good, SameRows, count-kept, imageLength-kept, open-good, good-open}
 use Rattle.frame.specs.Stays.{Stays, kept-refl, kept-trans, stays-same, stays-write, stays-schemas}
 use Rattle.frame.specs.Pairs.{stays-pairs}
 
@@ -98,7 +98,7 @@ stays-run (suc n) l g = stays-same l g
 -- l' after l, as in Stays; but where l has too few flags for its rows, there may be more of them in l'
 pub record Leaves (l l' : Lent) : Type 0 where
   pub good : Good (l' .image)
-  pub image-is : Kept (l' .image) (l .image)
+  pub image-is : SameRows (l' .image) (l .image)
   pub surplus-is : (p w : ℕ) → imageLength (l .image) ≤ p → part (l' .image) p w ≡ part (l .image) p w
   pub flags-are : rowCount (l .image) ≤ length (l .flags) → length (l' .flags) ≡ length (l .flags)
   pub flags-past : (j : ℕ) → rowCount (l .image) ≤ j → getD (l' .flags) j false ≡ getD (l .flags) j false

@@ -7,7 +7,6 @@ use mathlib.Core.Bool.{Bool, true, _&&_}
 use mathlib.Core.List.{List}
 use lib.ListN.{length, take, drop}
 use Rattle.model.specs.declared.Row.{Row}
-use Rattle.model.specs.Bytes.{part}
 use Rattle.laws.specs.Bytes.{length-part}
 use Rattle.model.specs.Image.{rowsFrom, rowAt, rowLength, rowSlots, slabsEnd, placed, slabOf, sound, soundAll}
 use Rattle.frame.specs.Rows.{placed-at, slabsEnd-suc, slabsEnd-le}

@@ -1,8 +1,6 @@
 -- The ways through the checks of an image and of a plan: where each stops, and where it goes on. Assumes nothing.
-use Prim.Native.Nat.{ℕ, zero, suc, _+_, _*_, _-_, _≤_, _<_}
-use native.Mathlib.Nat.{sub-zero, zero-add}
-use native.Mathlib.Omega.{arith}
-use mathlib.Core.Path.{_≡_, refl, sym, ap, _∙_}
+use Prim.Native.Nat.{ℕ, _+_, _*_, _-_, _≤_, _<_}
+use mathlib.Core.Path.{_≡_, refl, sym, _∙_}
 use mathlib.Core.Bool.{Bool, true, false, _&&_}
 use mathlib.Core.List.{List, [], _∷_}
 use lib.ListN.{length}
@@ -10,15 +8,11 @@ use lib.Dec.{eqb, leb}
 use borrow.Author.Tests.{le-leb, lt-leb, leb-true}
 use Rattle.model.specs.declared.Row.{Row}
 use Rattle.model.specs.Bytes.{get}
-use Rattle.model.specs.Image.{first, unless, shape, blank, schemas, rowCount, rowsFrom, rowAt, rowPlace, rowLength, totalLength, imageLength, slabsEnd, placed, slabOf, sound, soundAll, schemaChecks, layoutCheck, planCheck, openCheck}
+use Rattle.model.specs.Image.{first, unless, shape, blank, schemas, rowCount, rowPlace, totalLength, imageLength, slabsEnd, placed, soundAll, schemaChecks, layoutCheck, planCheck, openCheck}
 use Rattle.laws.specs.Tests.{and-left}
 use Rattle.laws.specs.Checks.{each-zero, unless-zero}
-use Rattle.frame.specs.Checks.{Shape, shape-parts}
-use Rattle.frame.specs.Rows.{Place, placed-at, slabsEnd-suc, slabsEnd-le}
-use Rattle.rows.specs.Tests.{and-assoc, and-true}
 use Rattle.rows.specs.First.{first-stop, first-on, first-one, unless-on, unless-stop}
-use Rattle.rows.specs.Rows.{rowsTo, rows-all, rows-step, rows-end}
-use Rattle.layout.specs.Ends.{long}
+use Rattle.rows.specs.Rows.{rowsTo, rows-all}
 
 module _ (s : List ℕ) where
   pub length-is : imageLength s ≡ slabsEnd (32 + 64 * rowCount s) (rowsTo s (rowCount s) 0)

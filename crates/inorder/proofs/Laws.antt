@@ -17,7 +17,7 @@ use Rattle.span.specs.declared.Run.{Run}
 use Rattle.span.specs.Parts.{from, Ran}
 use Rattle.span.specs.Rest.{Rest, nothing-left, run-same, run-done}
 use Rattle.span.proofs.Laws.{walk-first}
-use Rattle.fill.specs.Parts.{Covers, Whole}
+use Rattle.fill.specs.Parts.{Covers, WholeOrder}
 use Rattle.fill.proofs.Laws.{refused-windows}
 
 module _ (s : List ℕ) (q : Reading) (h : Readable s q) where
@@ -26,7 +26,7 @@ module _ (s : List ℕ) (q : Reading) (h : Readable s q) where
 
   -- ---- the whole reading order
 
-  pub first-whole : {p : Place} → p ≡ firstPlace (job .source) → p .slot < q .slots → p .left ≤ q .slots → Whole s q p
+  pub first-whole : {p : Place} → p ≡ firstPlace (job .source) → p .slot < q .slots → p .left ≤ q .slots → WholeOrder s q p
   first-whole e a b = record { slot-in = a; few-left = b; order-is = order-is (h .sized) (q .wrapped) e }
 
   -- ---- a run

@@ -22,7 +22,7 @@ use Rattle.span.specs.Strand.{Stranded, cut-edge}
 use Rattle.span.specs.Rest.{Rest, begin, without, empty-range, rising-from}
 use Rattle.answers.specs.declared.Filling.{Filling}
 use Rattle.fill.specs.declared.Pair.{Pair}
-use Rattle.fill.specs.Parts.{Lies, Keeps, Whole, sourceIn, jobOf, filledIn}
+use Rattle.fill.specs.Parts.{Lies, Keeps, WholeOrder, sourceIn, pairJob, filledIn}
 use Rattle.fill.proofs.Laws.{refused-windows}
 use Rattle.inorder.specs.Parts.{inPart}
 
@@ -111,16 +111,16 @@ keeps-part l a e k = record {
 
 -- ---- a turn: the image was s0, and is s; the range is done up to a
 
-module _ (s0 s : List ℕ) (p : Pair) (a : ℕ) (l0 : Lies s0 p) (kp : Keeps s0 s p) {f : Place} (wh : Whole (sourceIn s0 p) (p .reading) f) {k : Strand}
-    (st : Stranded (onward (jobOf s p) a) (p .reading .slots) f k) where
+module _ (s0 s : List ℕ) (p : Pair) (a : ℕ) (l0 : Lies s0 p) (kp : Keeps s0 s p) {f : Place} (wh : WholeOrder (sourceIn s0 p) (p .reading) f) {k : Strand}
+    (st : Stranded (onward (pairJob s p) a) (p .reading .slots) f k) where
   abbrev job : Job
-  job = jobOf s0 p
+  job = pairJob s0 p
 
   abbrev m : ℕ
   m = p .reading .series
 
   abbrev here : Job
-  here = jobOf s (inPart p a (k .end))
+  here = pairJob s (inPart p a (k .end))
 
   abbrev rest : Job
   rest = onward job (k .end)

@@ -15,7 +15,7 @@ use Rattle.model.specs.Ring.{slots}
 use Rattle.model.specs.Window.{Job, windowAnswer}
 use Rattle.model.specs.Consolidate.{Filled, nextWindow, windowsFrom, windows, writeCheck, writeOn, writeBits, writeAnswer, unlessRefused, fillWindow, fill}
 use Rattle.fill.specs.declared.Pair.{Pair}
-use Rattle.fill.specs.Parts.{Lies, jobOf}
+use Rattle.fill.specs.Parts.{Lies, pairJob}
 
 -- from a to b, at most j more
 record Few (a b j : ℕ) : Type 0 where
@@ -64,10 +64,10 @@ few-windows q (suc k) (At w) = go (few-windows q k (nextWindow q (suc w)))
     go h = unfold windowsFrom in omega (arith, h)
 
 -- a filling g on the way from f to all that a pair's windows make of it
-pub writes-few : (s : List ℕ) (p : Pair) → Lies s p → (q : Job) (ws : List ℕ) (m : ℕ) (g f : Filled) → fill q g ws m ≡ fill (jobOf s p) f (windows (jobOf s p)) m
+pub writes-few : (s : List ℕ) (p : Pair) → Lies s p → (q : Job) (ws : List ℕ) (m : ℕ) (g f : Filled) → fill q g ws m ≡ fill (pairJob s p) f (windows (pairJob s p)) m
     → g .writes ≤ f .writes + m * p .reading .slots
 writes-few s p l q ws m g f e =
-    let job = jobOf s p in
+    let job = pairJob s p in
     let a = fill-few q m ws g in
     let b = fill-few job m (windows job) f in
     let n : length (windows job) ≤ slots (job .source .slab) = unfold windows in few-windows job (slots (job .source .slab)) (nextWindow job 0) in

@@ -4,10 +4,10 @@ use mathlib.Core.List.{List}
 use Rattle.model.specs.Consolidate.{Filled, fill, windows}
 use Rattle.answers.specs.declared.Filling.{Filling}
 use Rattle.fill.specs.declared.Pair.{Pair}
-use Rattle.fill.specs.Parts.{jobOf, filledIn}
+use Rattle.fill.specs.Parts.{pairJob, filledIn}
 
 abbrev pub allFilled : List ℕ → Pair → Filling → Filled
-allFilled s p r = fill (jobOf s p) (filledIn s p r) (windows (jobOf s p)) (p .reading .series)
+allFilled s p r = fill (pairJob s p) (filledIn s p r) (windows (pairJob s p)) (p .reading .series)
 
 abbrev pub inPart : Pair → ℕ → ℕ → Pair
 inPart p start end = record {

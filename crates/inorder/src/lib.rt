@@ -5,7 +5,7 @@ ghost use Prim.Native.Nat.{_+_, _*_, _<_, _≤_, _^_};
 ghost use Rattle.model.specs.declared.Outcome.the-variants.{Accepted};
 ghost use Rattle.model.specs.Ring.{walk};
 ghost use Rattle.strand_theory.specs.Cuts.{Passes};
-ghost use Rattle.fill.specs.Parts.{Lies, Keeps, jobOf, filledIn};
+ghost use Rattle.fill.specs.Parts.{Lies, Keeps, pairJob, filledIn};
 ghost use Rattle.span.specs.Rest.{Rest};
 ghost use Rattle.inorder.specs.Parts.{allFilled, inPart};
 
@@ -24,7 +24,7 @@ fn fill_runs(
 ) -> answers::Filling
     requires { ⌜ Lies (now image) p × (place .slot < p .reading .slots) × (place .left ≤ p .reading .slots) ⌝ }
     requires { ⌜ (filling .outcome ≡ Accepted) × (filling .writes + p .reading .series * p .reading .slots ≤ 2 ^ 63) ⌝ }
-    requires { ⌜ Rest (jobOf (now image) p) (p .reading .series) (allFilled (now image) p filling) (filledIn (now image) p filling) (walk (p .reading .slots) (place .slot) (place .left)) ⌝ }
+    requires { ⌜ Rest (pairJob (now image) p) (p .reading .series) (allFilled (now image) p filling) (filledIn (now image) p filling) (walk (p .reading .slots) (place .slot) (place .left)) ⌝ }
     ensures { λ r. ⌜ filledIn (now (image .exit)) p r ≡ allFilled (now (image .entry)) p filling ⌝ }
     ensures { λ r. ⌜ Keeps (now (image .entry)) (now (image .exit)) p × (r .writes ≤ filling .writes + p .reading .series * p .reading .slots) ⌝ }
 {
@@ -83,7 +83,7 @@ pub fn fill_pair(image: &mut [u8], p: fill::Pair, filling: answers::Filling) -> 
     requires { ⌜ (filling .outcome ≡ Accepted) × (filling .writes + 2 * (p .reading .series * p .reading .slots) ≤ 2 ^ 63) ⌝ }
     ensures { λ r. ⌜ filledIn (now (image .exit)) p (r .filling) ≡ allFilled (now (image .entry)) p filling ⌝ }
     ensures { λ r. ⌜ Keeps (now (image .entry)) (now (image .exit)) p × (r .filling .writes ≤ filling .writes + p .reading .series * p .reading .slots) ⌝ }
-    ensures { λ r. ⌜ Passes (jobOf (now (image .entry)) p) (r .strands) ⌝ }
+    ensures { λ r. ⌜ Passes (pairJob (now (image .entry)) p) (r .strands) ⌝ }
 {
     let q = p.reading;
     let from = p.from;

@@ -6,7 +6,6 @@ use mathlib.Core.Path.{_≡_, refl}
 use mathlib.Core.Bool.{Bool, true, false, _&&_, cond}
 use mathlib.Core.List.{List}
 use lib.Dec.{ltb}
-use Rattle.model.specs.declared.Flags.{Flags}
 use Rattle.model.specs.Image.{schemas, rowCount, rowAt, rows, tiersOf, openCheck}
 use Rattle.model.specs.Lent.{Lent, tiers, firstRow}
 use Rattle.model.specs.Record.{seriesOf, handleOk}

@@ -10,7 +10,7 @@ use lib.ListN.{length, take, drop, set}
 use lib.Seq.{sets}
 use Rattle.model.specs.declared.Row.{Row}
 use Rattle.model.specs.Bytes.{get}
-use Rattle.model.specs.Image.{rowAt, rowsFrom, rows, rowCount, rowSlots, rowPlace, openCheck}
+use Rattle.model.specs.Image.{rowAt, rowsFrom, rowCount, rowSlots, rowPlace, openCheck}
 use Rattle.model.specs.Ring.{cursor, anyStamp, wrapFlag}
 use Rattle.model.specs.Lent.{Lent, wrapFlags, openOn, opening}
 use Rattle.ring.specs.Parts.{Sized, sized}

@@ -29,7 +29,7 @@ use Rattle.model.specs.Consolidate as C
 use Rattle.lent.specs.Parts.{lentOf, withFlag}
 use Rattle.answers.specs.declared.Filling.{Filling}
 use Rattle.fill.specs.declared.Pair.{Pair}
-use Rattle.fill.specs.Parts.{jobOf, filledIn, Keeps}
+use Rattle.fill.specs.Parts.{pairJob, filledIn, Keeps}
 use Rattle.pair.specs.declared.Progress.{Progress}
 use Rattle.pair.specs.Parts.{runOf, PairAt, markedIf}
 
@@ -70,7 +70,7 @@ module _ (s t : List ℕ) (u : Progress) (i : ℕ) (f : ConsolidationFn) (p : Pa
 
   -- what the code filled is the definition's
   filled-is : {w : Bool} → w ≡ getD (u .flags .wrapped) (suc i) false
-      → filledIn t p r ≡ fill (jobOf s p) (filledIn s p (record { wrapped = w; writes = 0; outcome = Accepted })) (windows (jobOf s p)) (p .reading .series)
+      → filledIn t p r ≡ fill (pairJob s p) (filledIn s p (record { wrapped = w; writes = 0; outcome = Accepted })) (windows (pairJob s p)) (p .reading .series)
       → filledIn t p r ≡ whole
   unfolding filled ring row
   filled-is e m = m ∙ rw (h .job-is, h .dest-is, h .series-is, e)
@@ -80,7 +80,7 @@ module _ (s t : List ℕ) (u : Progress) (i : ℕ) (f : ConsolidationFn) (p : Pa
   ring-is e = rw (← e, ← h .start-is) (ap (λ (x : List ℕ). record { image = x; flags = set (u .flags .wrapped) (suc i) (r .wrapped) }) (k .only))
 
   pair-filled : {w : Bool} (stamp : ℕ) → w ≡ getD (u .flags .wrapped) (suc i) false
-      → filledIn t p r ≡ fill (jobOf s p) (filledIn s p (record { wrapped = w; writes = 0; outcome = Accepted })) (windows (jobOf s p)) (p .reading .series)
+      → filledIn t p r ≡ fill (pairJob s p) (filledIn s p (record { wrapped = w; writes = 0; outcome = Accepted })) (windows (pairJob s p)) (p .reading .series)
       → stamp ≡ p .reading .end - 1 → {v : List ℕ} → v ≡ markedIf (eqb (outcomeNo (r .outcome)) 0 && ltb 0 (r .writes)) t i stamp
       → runOf v (record { flags = withFlag (u .flags) (suc i) (r .wrapped); count = u .count + r .writes; outcome = r .outcome }) ≡ pairWith true f (runOf s u) i
   unfolding pairWith closePair
@@ -91,7 +91,7 @@ module _ (s t : List ℕ) (u : Progress) (i : ℕ) (f : ConsolidationFn) (p : Pa
 
   -- in the code's terms
   pub pair-done : {w : Bool} (stamp : ℕ) → w ≡ getD (u .flags .wrapped) (i + 1) false
-      → filledIn t p r ≡ fill (jobOf s p) (filledIn s p (record { wrapped = w; writes = 0; outcome = Accepted })) (windows (jobOf s p)) (p .reading .series)
+      → filledIn t p r ≡ fill (pairJob s p) (filledIn s p (record { wrapped = w; writes = 0; outcome = Accepted })) (windows (pairJob s p)) (p .reading .series)
       → stamp ≡ p .reading .end - 1 → {v : List ℕ} → v ≡ markedIf (eqb (outcomeNo (r .outcome)) 0 && ltb 0 (r .writes)) t i stamp
       → {after : Flags} → after ≡ withFlag (u .flags) (i + 1) (r .wrapped)
       → runOf v (record { flags = after; count = u .count + r .writes; outcome = r .outcome }) ≡ pairWith true f (runOf s u) i

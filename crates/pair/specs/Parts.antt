@@ -12,7 +12,7 @@ use Rattle.model.specs.Consolidate.{Run}
 use Rattle.model.specs.Consolidate as C
 use Rattle.lent.specs.Parts.{lentOf}
 use Rattle.fill.specs.declared.Pair.{Pair}
-use Rattle.fill.specs.Parts.{Lies, destIn, jobOf}
+use Rattle.fill.specs.Parts.{Lies, destIn, pairJob}
 use Rattle.pair.specs.declared.Progress.{Progress}
 
 abbrev pub runOf : List ℕ → Progress → Run
@@ -27,7 +27,7 @@ pub record Adjacent (s : List ℕ) (i : ℕ) : Type 0 where
 -- the pair of these rows
 pub record PairAt (s : List ℕ) (flags : Flags) (i : ℕ) (f : ConsolidationFn) (p : Pair) : Type 0 where
   pub lies : Lies s p
-  pub job-is : jobOf s p ≡ C.jobOf (lentOf s flags) i f
+  pub job-is : pairJob s p ≡ C.jobOf (lentOf s flags) i f
   pub dest-is : destIn s p ≡ slabOf s (rowAt s (suc i))
   pub start-is : p .dest .from ≡ rowAt s (suc i) .offset
   pub series-is : p .reading .series ≡ rowAt s i .series

@@ -3,7 +3,7 @@ use Prim.Native.Nat.{ℕ, suc, _+_, _*_, _%_, _^_, _≤_, _<_}
 use native.Mathlib.Nat.{mul-add, mul-suc, mul-assoc, mul-comm, mul-le-mul-right, mod-eq-of-lt}
 use native.Mathlib.Omega.{arith}
 use mathlib.Core.Path.{_≡_, refl, sym, ap, _∙_}
-use mathlib.Core.Logic.{_≢_, _⊎_, inl, inr}
+use mathlib.Core.Logic.{_≢_, inl, inr}
 use mathlib.Core.List.{List}
 use lib.Bits.{bitOr, or-add-and, and-le-l, and-le-r}
 use Rattle.model.specs.declared.Row.{Row}
@@ -11,7 +11,7 @@ use Rattle.model.specs.Bytes.{get}
 use Rattle.model.specs.Image.{schemas, rowPlace, rowAt}
 use Rattle.quick.specs.declared.Shared.{Shared}
 use Rattle.quick.specs.Pass.{Start}
-use Rattle.quick.specs.Seen.{PairAt, Known, Begun, Followed, Joined, Early, Only, NextTier, Ends, Low, Slotted, Timed, Slab, Here}
+use Rattle.quick.specs.Seen.{TwoAt, Known, Begun, Followed, Joined, Early, Only, NextTier, Ends, Low, Slotted, Timed, Slab, Here}
 use Rattle.model.specs.Layout.{slabLength, columnAt, columnBehind, stampsAt, stampsBehind, directory}
 
 pub length-is : (n m : ℕ) → n * (8 * m + 8) + stampsAt m ≡ slabLength n m
@@ -39,7 +39,7 @@ pub tier-low : {s : List ℕ} {i : ℕ} → Early s i → get 4 s (32 + 64 * i +
 unfolding rowAt rowPlace
 tier-low e = e .tier-low
 
-pub start-is : (s : List ℕ) (i k : ℕ) {w f m : ℕ} → PairAt s (32 + 64 * i) w → w ≡ k → k < 4_294_967_296
+pub start-is : (s : List ℕ) (i k : ℕ) {w f m : ℕ} → TwoAt s (32 + 64 * i) w → w ≡ k → k < 4_294_967_296
     → f ≡ get 4 s (32 + 64 * i + 24) → f ≡ 0 → m ≡ get 4 s (32 + 64 * i + 28) → m ≢ 0 → Start k (rowAt s i)
 unfolding rowAt rowPlace
 start-is s i k p e l f n m g = record {
@@ -61,7 +61,7 @@ next w s i a b e = let q : 32 + 64 * i + a ≡ 32 + 64 * (i + 1) + b = omega (ar
 
 -- the row after row i shares the same
 pub followed-is : (s : List ℕ) (i : ℕ) (p : Shared) {x f h d e : ℕ} → Known s i p
-    → PairAt s (32 + 64 * i + 88) x → (f + p .high) % 2 ^ 64 ≡ x → f ≤ 6
+    → TwoAt s (32 + 64 * i + 88) x → (f + p .high) % 2 ^ 64 ≡ x → f ≤ 6
     → h ≡ get 8 s (32 + 64 * i + 120) → h ≡ p .hash → d ≡ get 8 s (32 + 64 * i + 8) → e ≡ get 8 s (32 + 64 * i + 72) → d < e → Followed s i p
 unfolding rowAt rowPlace
 followed-is s i p {x} {f} k a w l h g d e r =
@@ -86,12 +86,12 @@ next-start s i {g} e h =
     record { joins = inr (rw k at (h .start)); known = h .known }
 
 -- the tier after row i's
-pub next-tier : (s : List ℕ) (i : ℕ) {w x : ℕ} {q : Shared} → PairAt s (32 + 64 * i) w
-    → PairAt s (32 + 64 * i + 64) x → x ≡ w + 4_294_967_296 → Followed s i q → Joined s i q
+pub next-tier : (s : List ℕ) (i : ℕ) {w x : ℕ} {q : Shared} → TwoAt s (32 + 64 * i) w
+    → TwoAt s (32 + 64 * i + 64) x → x ≡ w + 4_294_967_296 → Followed s i q → Joined s i q
 unfolding rowAt rowPlace
 next-tier s i {w} {x} a b e f =
     let n : 32 + 64 * i + 64 ≡ 32 + 64 * (i + 1) = omega arith in
-    let b′ : PairAt s (32 + 64 * (i + 1)) x = rw n at b in
+    let b′ : TwoAt s (32 + 64 * (i + 1)) x = rw n at b in
     record {
       joins = inl (record {
         schema-is = omega (arith, a .0, a .1, b′ .0, b′ .1, e);
@@ -104,13 +104,13 @@ next-tier s i {w} {x} a b e f =
     }
 
 -- the tier after row i's, where all rows are of schema 0
-pub next-only : (s : List ℕ) (i : ℕ) {x : ℕ} {q : Shared} → Only s i → PairAt s (96 + 64 * i) x → x ≡ 4_294_967_296 * (i + 1) → Followed s i q → NextTier s i q
+pub next-only : (s : List ℕ) (i : ℕ) {x : ℕ} {q : Shared} → Only s i → TwoAt s (96 + 64 * i) x → x ≡ 4_294_967_296 * (i + 1) → Followed s i q → NextTier s i q
 unfolding rowAt rowPlace
 next-only s i {x} o b e f =
     let a : 96 + 64 * i ≡ 32 + 64 * i + 64 = omega arith in
     let n : 96 + 64 * i ≡ 32 + 64 * (i + 1) = omega arith in
-    let w : PairAt s (32 + 64 * i) (4_294_967_296 * i) = (omega (arith, o .schema-is, o .tier-is), omega (arith, o .schema-is)) in
-    let b′ : PairAt s (32 + 64 * (i + 1)) x = rw n at b in
+    let w : TwoAt s (32 + 64 * i) (4_294_967_296 * i) = (omega (arith, o .schema-is, o .tier-is), omega (arith, o .schema-is)) in
+    let b′ : TwoAt s (32 + 64 * (i + 1)) x = rw n at b in
     record {
       joined = next-tier s i w (rw a at b) (omega (arith, e)) f;
       only = record { schema-is = omega (arith, b′ .0, b′ .1, e); tier-is = omega (arith, b′ .0, b′ .1, e) };
@@ -136,8 +136,8 @@ slotted-is n d r {x} low e l =
     record { held = omega (arith, sum); rest = omega (arith, sum, l); low = low }
 
 -- a slab by its words
-pub slab-is : (s : List ℕ) (at : ℕ) (r : Row) (m h : ℕ) {w y n c g high k : ℕ} → m < 4_294_967_296 → high ≡ 4_294_967_296 * m → PairAt s at w → w ≡ 0x1_4f44_4e52
-    → g ≡ get 8 s (at + 8) → g ≡ h → PairAt s (at + 16) y → (n + high) % 2 ^ 64 ≡ y → n < 134_217_728
+pub slab-is : (s : List ℕ) (at : ℕ) (r : Row) (m h : ℕ) {w y n c g high k : ℕ} → m < 4_294_967_296 → high ≡ 4_294_967_296 * m → TwoAt s at w → w ≡ 0x1_4f44_4e52
+    → g ≡ get 8 s (at + 8) → g ≡ h → TwoAt s (at + 16) y → (n + high) % 2 ^ 64 ≡ y → n < 134_217_728
     → c ≡ get 4 s (at + 32) → c < n → k ≡ stampsAt m → r .len ≡ n * (8 * m + 8) + k → Timed s at r n → Slab s at r m h
 unfolding stampsAt stampsBehind directory
 slab-is s at r m h {w} {y} {n} {high = high} few k a named g hash b e l c low stamps len t =

@@ -5,12 +5,12 @@ use native.Mathlib.Nat.{zero-add}
 use native.Mathlib.Omega.{arith}
 use native.Mathlib.Decide.{ℕ-discrete}
 use mathlib.Core.Path.{_≡_, refl, sym, ap, _∙_}
-use mathlib.Core.Logic.{_≢_, _⊎_, inl, inr}
-use mathlib.Core.Bool.{Bool, true, false, _&&_}
-use mathlib.Core.List.{List, [], _∷_}
-use lib.Dec.{ltb, eqb}
+use mathlib.Core.Logic.{_⊎_, inl, inr}
+use mathlib.Core.Bool.{true}
+use mathlib.Core.List.{List, []}
+use lib.Dec.{eqb}
 use Rattle.model.specs.declared.Row.{Row}
-use Rattle.model.specs.Image.{unless, first, schemas, rowAt, rowsFrom, keepRow, tiersOf, tierCheck, tierChecks, rising, schemaCheck, schemaChecks}
+use Rattle.model.specs.Image.{unless, first, rowAt, rowsFrom, keepRow, tiersOf, tierCheck, tierChecks, rising, schemaCheck, schemaChecks}
 use Rattle.laws.specs.Tests.{yes-lt, yes-eq, no-eq}
 
 -- q right after p: the same schema, with a longer interval, or the first row of the next schema, with some series and no function

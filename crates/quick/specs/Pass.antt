@@ -2,18 +2,18 @@
 -- facts in its own order; the order of the refusals is the plain check's alone. Assumes nothing.
 use Prim.Native.Nat.{ℕ, zero, suc, _+_, _-_, _^_, _≤_, _<_}
 use native.Mathlib.Omega.{arith}
-use mathlib.Core.Path.{_≡_, refl, sym, ap, _∙_}
+use mathlib.Core.Path.{_≡_, refl}
 use mathlib.Core.Logic.{_⊎_, inl, inr}
 use mathlib.Core.Bool.{Bool, true, false, _&&_, _||_}
-use mathlib.Core.List.{List, [], _∷_}
-use lib.Dec.{leb, ltb, eqb}
+use mathlib.Core.List.{List}
+use lib.Dec.{eqb}
 use lib.ListN.{length}
 use Rattle.model.specs.declared.Row.{Row}
 use Rattle.model.specs.Bytes.{u32, u64}
-use Rattle.model.specs.Image.{unless, first, schemas, rowCount, totalLength, rowPlace, rowAt, rowsFrom, rows, rowSlots, rowLength, follows, tierCheck, imageLength, layoutCheck, slabOf, openCheck}
+use Rattle.model.specs.Image.{unless, first, schemas, rowCount, totalLength, rowPlace, rowAt, rows, rowSlots, rowLength, follows, tierCheck, imageLength, layoutCheck, slabOf, openCheck}
 use Rattle.laws.specs.Tests.{yes-le, yes-lt, yes-eq}
 use Rattle.frame.specs.Checks.{Suits, sound-of}
-use Rattle.frame.specs.Good.{Good, open-good, slabStart}
+use Rattle.frame.specs.Good.{open-good, slabStart}
 use Rattle.quick.specs.Chain.{SameSchema, NextSchema, Chain, chain-passes}
 
 -- ---- one row

@@ -5,7 +5,7 @@ use native.Mathlib.Numerals.{add-one}
 use native.Mathlib.Omega.{arith}
 use native.Mathlib.Decide.{ℕ-discrete}
 use mathlib.Core.Path.{_≡_, refl, sym, ap, _∙_}
-use mathlib.Core.Logic.{_⊎_, inl, inr}
+use mathlib.Core.Logic.{inl, inr}
 use mathlib.Core.List.{List}
 use lib.ListN.{length, getD}
 use Rattle.model.specs.declared.Row.{Row}
@@ -19,11 +19,11 @@ use Rattle.frame.specs.Good.{slabStart, start-suc}
 use Rattle.quick.specs.declared.Shared.{Shared}
 use Rattle.quick.specs.declared.Step.{Step}
 use Rattle.quick.specs.declared.Step.the-variants as S
-use Rattle.quick.specs.Pass.{RowGood, Joins, Start, Pass, opens}
+use Rattle.quick.specs.Pass.{RowGood, Joins, Start, opens}
 
 -- w is the two numbers that stand side by side at o
-abbrev pub PairAt : List ℕ → ℕ → ℕ → Type 0
-PairAt s o w = (w ≡ get 4 s o + 4_294_967_296 * get 4 s (o + 4)) × (get 4 s o < 4_294_967_296)
+abbrev pub TwoAt : List ℕ → ℕ → ℕ → Type 0
+TwoAt s o w = (w ≡ get 4 s o + 4_294_967_296 * get 4 s (o + 4)) × (get 4 s o < 4_294_967_296)
 
 -- the header, but for the number of its rows
 pub record Head (s : List ℕ) : Type 0 where
@@ -138,8 +138,8 @@ pub record Begins (s : List ℕ) (at : ℕ) (p : Shared) : Type 0 where
   pub here : Here s 0 at
 
 -- eight bytes are two numbers side by side
-pub get-pair : (s : List ℕ) (o : ℕ) → o + 4 ≤ length s → get 8 s o ≡ get 4 s o + 4_294_967_296 * get 4 s (o + 4)
-get-pair s o h =
+pub get-two : (s : List ℕ) (o : ℕ) → o + 4 ≤ length s → get 8 s o ≡ get 4 s o + 4_294_967_296 * get 4 s (o + 4)
+get-two s o h =
     let four : (w : ℕ) → get (suc (suc (suc (suc w)))) s o ≡ getD s o 0 + 256 * (getD s (suc o) 0 + 256 * (getD s (suc (suc o)) 0 + 256 * (getD s (suc (suc (suc o))) 0 + 256 * get w s (suc (suc (suc (suc o))))))) =
     λ w. rw (get-suc (suc (suc (suc w))) s o (omega arith), get-suc (suc (suc w)) s (suc o) (omega arith), get-suc (suc w) s (suc (suc o)) (omega arith), get-suc w s (suc (suc (suc o))) (omega arith)) in
     let none : get 0 s (suc (suc (suc (suc o)))) ≡ 0 = unfold get part le in refl in

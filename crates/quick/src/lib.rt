@@ -1,6 +1,6 @@
 // A quick pass over header, rows and slab headers that only says "all good": then opening's check passes. Where it does not say so, the plain check in document
 // 01's order decides. So it may leave rare shapes to the plain check: a slab of 2^27 slots or more and a tier that holds 137 years or more, so that no product
-// can wrap and no row is divided, and an image of 2^40 bytes. Two fields that stand side by side are read as one word (`pair`), and what the rows of a schema share is carried from row to
+// can wrap and no row is divided, and an image of 2^40 bytes. Two fields that stand side by side are read as one word (`two_u32`), and what the rows of a schema share is carried from row to
 // row (`Shared`). A store of one schema with at most four rows has a loop of its own (`few_good`), which the compiler writes out row by row. `check` asks this
 // pass, then the plain check.
 ghost use mathlib.Core.Path.{_≡_};
@@ -8,7 +8,7 @@ ghost use mathlib.Core.Bool.{true};
 ghost use Prim.Native.Nat.{_+_, _*_, _<_, _≤_, _^_};
 ghost use lib.ListN.{length};
 ghost use Rattle.model.specs.Image.{schemas, rowCount, openCheck};
-ghost use Rattle.quick.specs.Seen.{PairAt, Head, Known, IfGood, Begun, Followed, Joined, Only, NextTier, Low, Slotted, Timed, Slab, Here, Begins, Early, Ends, Counted, All};
+ghost use Rattle.quick.specs.Seen.{TwoAt, Head, Known, IfGood, Begun, Followed, Joined, Only, NextTier, Low, Slotted, Timed, Slab, Here, Begins, Early, Ends, Counted, All};
 
 // A magic word and the version behind it, as one number.
 const RSTO: u64 = format::RSTO + 0x1_0000_0000 * format::VERSION;
@@ -38,9 +38,9 @@ const UPPER: usize = format::SLAB_INTERVAL + 4;
 const FUNCTIONS: u64 = format::FUNCTIONS as u64;
 
 // Two u32 that stand side by side, as one number: the second counts 2^32. One load; the first is read by itself for its bound alone.
-fn pair(s: &[u8], at: usize) -> u64
+fn two_u32(s: &[u8], at: usize) -> u64
     requires { ⌜ at + 8 ≤ length (now s) ⌝ }
-    ensures { λ r. ⌜ PairAt (now (s .entry)) at r ⌝ }
+    ensures { λ r. ⌜ TwoAt (now (s .entry)) at r ⌝ }
 {
     let _low = field::get_u32(s, at);
     field::get_u64(s, at)
@@ -53,7 +53,7 @@ fn head_good(s: &[u8]) -> bool
     if s.len() < LEAST {
         return false;
     }
-    let named = pair(s, format::HEADER_MAGIC);
+    let named = two_u32(s, format::HEADER_MAGIC);
     if named != RSTO {
         return false;
     }
@@ -88,7 +88,7 @@ fn starts(s: &[u8], i: usize, k: u64) -> Step
     ensures { λ r. ⌜ IfGood (Begun (now (s .entry)) i k) r ⌝ }
 {
     let at = format::HEADER + format::ROW * i;
-    let w = pair(s, at);
+    let w = two_u32(s, at);
     if w != k {
         return Step::Bad;
     }
@@ -114,7 +114,7 @@ fn follows(s: &[u8], i: usize, p: Shared) -> Step
     ensures { λ r. ⌜ IfGood (Followed (now (s .entry)) i) r ⌝ }
 {
     let at = format::HEADER + format::ROW * i;
-    let x = pair(s, at + NEXT_FUNCTION);
+    let x = two_u32(s, at + NEXT_FUNCTION);
     let function = std::num::wrapping_sub_u64(x, p.high);
     if function > FUNCTIONS {
         return Step::Bad;
@@ -134,8 +134,8 @@ fn joins(s: &[u8], i: usize, p: Shared) -> Step
     ensures { λ r. ⌜ IfGood (Joined (now (s .entry)) i) r ⌝ }
 {
     let at = format::HEADER + format::ROW * i;
-    let w = pair(s, at);
-    let x = pair(s, at + format::ROW);
+    let w = two_u32(s, at);
+    let x = two_u32(s, at + format::ROW);
     if x == w + 0x1_0000_0000 {
         return follows(s, i, p);
     }
@@ -148,7 +148,7 @@ fn next_tier(s: &[u8], i: usize, p: Shared) -> Step
     requires { ⌜ (32 + 64 * i + 128 ≤ length (now s)) × (i ≤ 32) × Only (now s) i × Known (now s) i p ⌝ }
     ensures { λ r. ⌜ IfGood (NextTier (now (s .entry)) i) r ⌝ }
 {
-    let x = pair(s, SECOND + format::ROW * i);
+    let x = two_u32(s, SECOND + format::ROW * i);
     if x != 0x1_0000_0000 * (i as u64 + 1) {
         return Step::Bad;
     }
@@ -184,7 +184,7 @@ fn timed_good(s: &[u8], at: usize, r: model::Row, n: u64) -> bool
         return false;
     }
     let interval = r.interval;
-    let x = pair(s, at + format::SLAB_INTERVAL);
+    let x = two_u32(s, at + format::SLAB_INTERVAL);
     if x != interval {
         return false;
     }
@@ -196,14 +196,14 @@ fn slab_good(s: &[u8], at: usize, r: model::Row, p: Shared) -> bool
     requires { ⌜ (at + 64 ≤ length (now s)) × (p .series < 4294967296) × (p .high ≡ 4294967296 * p .series) ⌝ }
     ensures { λ b. ⌜ (b ≡ true → Slab (now (s .entry)) at r (p .series) (p .hash)) ⌝ }
 {
-    let named = pair(s, at);
+    let named = two_u32(s, at);
     if named != RNDO {
         return false;
     }
     if field::get_u64(s, at + format::SLAB_HASH) != p.hash {
         return false;
     }
-    let y = pair(s, at + format::SLAB_SLOTS);
+    let y = two_u32(s, at + format::SLAB_SLOTS);
     let n = std::num::wrapping_sub_u64(y, p.high);
     if n >= 0x800_0000 {
         return false;

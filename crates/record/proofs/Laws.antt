@@ -1,12 +1,9 @@
 -- A slab that was lent on and written is the model's write to its ring; the answer of `record`, one law a way. Assumes nothing.
-use Prim.Native.Nat.{ℕ, _+_, _-_, _^_, _≤_, _<_}
+use Prim.Native.Nat.{ℕ, _+_, _-_, _≤_}
 use native.Mathlib.Omega.{arith}
-use native.Mathlib.Decide.{decLt}
 use mathlib.Core.Path.{_≡_, ap, _∙_}
-use mathlib.Core.Logic.{_≢_}
-use mathlib.Core.Bool.{Bool, true, false, not, _&&_}
+use mathlib.Core.Bool.{Bool, true, false}
 use mathlib.Core.List.{List, []}
-use lib.Dec.{leb, ltb}
 use lib.ListN.{length, getD, set}
 use borrow.Rule.Slice.PartMut.{putMid, midOf}
 use Rattle.model.specs.Bytes.{part}
@@ -14,7 +11,6 @@ use Rattle.model.specs.Image.{unless, first, rowAt, slabOf, openCheck}
 use Rattle.model.specs.Ring.{Ring, ColumnValue, flagAfter, store, write, isInfinite}
 use Rattle.model.specs.Lent.{row, ring, withRing}
 use Rattle.model.specs.Record.{stampOk, recordCheck}
-use Rattle.laws.specs.Tests.{yes-le, yes-lt, no-le, no-lt}
 use Rattle.laws.specs.Bytes.{lent-splice}
 use Rattle.rings.specs.Sound.{Sound}
 use Rattle.ring.specs.Parts.{ringOf}

@@ -29,7 +29,7 @@ use Rattle.laws.specs.Checks.{each-zero, unless-zero}
 use Rattle.rings.specs.Sound.{Sound, sound-write}
 use Rattle.frame.specs.Checks.{sound-keeps}
 use Rattle.frame.specs.Recorded.{stamp-low, stamp-pos, handle-in, record-zero, batch-zero, batch-none}
-use Rattle.frame.specs.Good.{Good, Kept, setMark, length-sound, slab-sound, count-kept, schemas-kept}
+use Rattle.frame.specs.Good.{Good, SameRows, setMark, length-sound, slab-sound, count-kept, schemas-kept}
 use Rattle.frame.specs.Frame.{count-with, ring-same, ring-other, length-write, sound-written}
 use Rattle.frame.specs.Mark.{ring-withMark}
 use Rattle.frame.specs.Stays.{kept-refl, stays-ring, stays-mark, stays-some, finest}
@@ -72,7 +72,7 @@ module _ (P : ℕ → ℕ → Ring → Type 0)
     pub rings : (i : ℕ) → i < rowCount (l .image) → P (rowSlots (row l i)) (row l i .series) (ring l i)
 
   -- header and rows stay, but for marks, and the rings have it
-  moved : (l l' : Lent) → Good (l' .image) → Kept (l' .image) (l .image) → rowCount (l .image) ≤ length (l' .flags)
+  moved : (l l' : Lent) → Good (l' .image) → SameRows (l' .image) (l .image) → rowCount (l .image) ≤ length (l' .flags)
       → ((i : ℕ) → i < rowCount (l .image) → P (rowSlots (row l i)) (row l i .series) (ring l' i)) → Each l'
   unfolding row
   moved l l' g k f h =

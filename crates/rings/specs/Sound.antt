@@ -9,8 +9,8 @@ use lib.ListN.{length}
 use Rattle.model.specs.Bytes.{get}
 use Rattle.model.specs.Layout.{slabLength, columnAt, columnBehind, stampsBehind}
 use Rattle.model.specs.Ring.{Ring, ColumnValue, slots, series, interval, cursor, slotOf, write}
-use Rattle.laws.specs.Slab.{Whole}
-use Rattle.rings.specs.Write.{Fit, Kept, kept, Elsewhere, elsewhere, Wrote, wrote}
+use Rattle.laws.specs.Slab.{FullLength}
+use Rattle.rings.specs.Write.{Fit, SlabKept, kept, Elsewhere, elsewhere, Wrote, wrote}
 
 -- n slots, m series, interval d
 pub record Sound (s : List ℕ) (n m d : ℕ) : Type 0 where
@@ -29,7 +29,7 @@ module _ {s : List ℕ} {n m d : ℕ} (h : Sound s n m d) where
   pub some-slots : 0 < n
   some-slots = omega (arith, h .cursor-in)
 
-  pub as-long : Whole s
+  pub as-long : FullLength s
   as-long = h .whole ∙ rw (h .slots-is, h .series-is) refl
 
   pub header-in : 64 ≤ length s
@@ -58,7 +58,7 @@ module _ {s : List ℕ} {n m d : ℕ} (h : Sound s n m d) where
 -- ---- a write
 
 module _ (r : Ring) (es : List ColumnValue) (t n m d : ℕ) (h : Sound (r .slab) n m d) where
-  pub kept-by-write : Kept (r .slab) (slotOf (r .slab) t) (write r es t .slab)
+  pub kept-by-write : SlabKept (r .slab) (slotOf (r .slab) t) (write r es t .slab)
   kept-by-write = kept r es t (header-in h) (omega (arith, slot-in h t, h .few-slots))
 
   -- every write keeps it

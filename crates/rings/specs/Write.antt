@@ -15,7 +15,7 @@ use Rattle.model.specs.Layout.{stampsBehind, stampsAt, columnBehind, columnAt}
 use Rattle.model.specs.Ring.{Ring, ColumnValue, slots, series, cursor, stampAt, cellAt, stamp, cell, slotOf, putCells, moveCursor, flagAfter, store, cellsFor, write}
 use Rattle.laws.specs.Tests.{yes-le, yes-lt, yes-eq, no-lt, no-eq}
 use Rattle.laws.specs.Bytes.{before, behind, get-put, length-put}
-use Rattle.laws.specs.Slab.{Whole, cellAt-high, stampAt-high, inside-cell, inside-stamp, slots-put, series-put, cell-put-cell, stamp-put-cell, stamp-put-stamp, cell-put-stamp, stamp-same, cell-same, cursor-same, stamp-cursor, cell-cursor}
+use Rattle.laws.specs.Slab.{FullLength, cellAt-high, stampAt-high, inside-cell, inside-stamp, slots-put, series-put, cell-put-cell, stamp-put-cell, stamp-put-stamp, cell-put-stamp, stamp-same, cell-same, cursor-same, stamp-cursor, cell-cursor}
 
 -- ---- cells by column and slot
 
@@ -91,7 +91,7 @@ sets-same C D i (e ∷ es) c j h = sets-same (setCell C i (e .column) (e .value)
     one : setCell C i (e .column) (e .value) c j ≡ setCell D i (e .column) (e .value) c j
     one = unfold setCell in (ap (cond (eqb c (e .column) && eqb j i) (e .value)) h)
 
-one-cell : (s : List ℕ) (i d v c j : ℕ) → Whole s → i < slots s → d < series s → v < 2 ^ 64 → j < slots s
+one-cell : (s : List ℕ) (i d v c j : ℕ) → FullLength s → i < slots s → d < series s → v < 2 ^ 64 → j < slots s
     → cell (put 8 s (cellAt s d i) v) c j ≡ setCell (cell s) i d v c j
 unfolding setCell
 one-cell s i d v c j wh hi hd hv hj = go (ℕ-discrete c d) (ℕ-discrete j i)
@@ -104,7 +104,7 @@ one-cell s i d v c j wh hi hd hv hj = go (ℕ-discrete c d) (ℕ-discrete j i)
     go (yes p) (no q) = other (λ _. q) (rw (p, yes-eq d, no-eq j i q))
     go (no p) q = other (λ e. absurd (p e)) (rw (no-eq c d p))
 
-pub cells-put : (es : List ColumnValue) (s : List ℕ) (i : ℕ) → Whole s → i < slots s → Fit (series s) es → (c j : ℕ) → j < slots s
+pub cells-put : (es : List ColumnValue) (s : List ℕ) (i : ℕ) → FullLength s → i < slots s → Fit (series s) es → (c j : ℕ) → j < slots s
     → cell (putCells s i es) c j ≡ setCells (cell s) i es c j
 unfolding putCells setCells
 cells-put [] s i wh hi f c j hj = refl
@@ -114,7 +114,7 @@ cells-put (e ∷ es) s i wh hi f c j hj =
     let u = put 8 s (cellAt s d i) v in
     let n₁ : slots u ≡ slots s = slots-put s (cellAt s d i) v (cellAt-high s d i) in
     let m₁ : series u ≡ series s = series-put s (cellAt s d i) v (cellAt-high s d i) in
-    let w₁ : Whole u = length-put 8 s (cellAt s d i) v ∙ wh ∙ rw (n₁, m₁) refl in
+    let w₁ : FullLength u = length-put 8 s (cellAt s d i) v ∙ wh ∙ rw (n₁, m₁) refl in
     cells-put es u i w₁ (rw n₁ hi) (rw m₁ (f .2)) c j (rw n₁ hj)
     ∙ sets-same (cell u) (setCell (cell s) i d v) i es c j (one-cell s i d v c j wh hi (f .0) (f .1) hj)
 
@@ -141,13 +141,13 @@ store-flag r es t = refl
 
 -- ---- what holds of u after any values went to slot i of s: length, header but for the cursor, directory
 
-pub record Kept (s : List ℕ) (i : ℕ) (u : List ℕ) : Type 0 where
+pub record SlabKept (s : List ℕ) (i : ℕ) (u : List ℕ) : Type 0 where
   pub length-is : length u ≡ length s
   pub header : (w p : ℕ) → p + w ≤ 32 → get w u p ≡ get w s p
   pub directory : (w p : ℕ) → 36 ≤ p → p + w ≤ stampsAt (series s) → get w u p ≡ get w s p
   pub cursor-is : cursor u ≡ i
 
-pub store-kept : (r : Ring) (es : List ColumnValue) (t : ℕ) → 64 ≤ length (r .slab) → slotOf (r .slab) t < 2 ^ 32 → Kept (r .slab) (slotOf (r .slab) t) (store r es t .slab)
+pub store-kept : (r : Ring) (es : List ColumnValue) (t : ℕ) → 64 ≤ length (r .slab) → slotOf (r .slab) t < 2 ^ 32 → SlabKept (r .slab) (slotOf (r .slab) t) (store r es t .slab)
 store-kept r es t hl hi =
     let s = r .slab in
     let i = slotOf s t in
@@ -171,7 +171,7 @@ pub record Elsewhere (s : List ℕ) (i t : ℕ) (u : List ℕ) : Type 0 where
   pub stamp-other : (j : ℕ) → j < slots s → j ≢ i → stamp u j ≡ stamp s j
   pub cell-other : (c j : ℕ) → j < slots s → j ≢ i → cell u c j ≡ cell s c j
 
-pub store-elsewhere : (r : Ring) (es : List ColumnValue) (t : ℕ) → Whole (r .slab) → slotOf (r .slab) t < slots (r .slab) → t < 2 ^ 64
+pub store-elsewhere : (r : Ring) (es : List ColumnValue) (t : ℕ) → FullLength (r .slab) → slotOf (r .slab) t < slots (r .slab) → t < 2 ^ 64
     → Elsewhere (r .slab) (slotOf (r .slab) t) t (store r es t .slab)
 store-elsewhere r es t wh hi ht =
     let s = r .slab in
@@ -189,12 +189,12 @@ store-elsewhere r es t wh hi ht =
 -- ---- and with 64-bit values that fit: the stamps and the cells
 
 pub record Wrote (s : List ℕ) (i t : ℕ) (es : List ColumnValue) (u : List ℕ) : Type 0 where
-  pub rest : Kept s i u
+  pub rest : SlabKept s i u
   pub stamp-is : stamp u i ≡ t
   pub stamp-other : (j : ℕ) → j < slots s → j ≢ i → stamp u j ≡ stamp s j
   pub cells : (c j : ℕ) → j < slots s → cell u c j ≡ setCells (cell s) i es c j
 
-pub store-wrote : (r : Ring) (es : List ColumnValue) (t : ℕ) → Whole (r .slab) → slots (r .slab) < 2 ^ 32 → slotOf (r .slab) t < slots (r .slab) → t < 2 ^ 64
+pub store-wrote : (r : Ring) (es : List ColumnValue) (t : ℕ) → FullLength (r .slab) → slots (r .slab) < 2 ^ 32 → slotOf (r .slab) t < slots (r .slab) → t < 2 ^ 64
     → Fit (series (r .slab)) es → Wrote (r .slab) (slotOf (r .slab) t) t es (store r es t .slab)
 store-wrote r es t wh hn hi ht f =
     let s = r .slab in
@@ -203,7 +203,7 @@ store-wrote r es t wh hn hi ht f =
     let s₁ = put 8 s o t in
     let n₁ : slots s₁ ≡ slots s = slots-put s o t (stampAt-high s i) in
     let m₁ : series s₁ ≡ series s = series-put s o t (stampAt-high s i) in
-    let w₁ : Whole s₁ = length-put 8 s o t ∙ wh ∙ rw (n₁, m₁) refl in
+    let w₁ : FullLength s₁ = length-put 8 s o t ∙ wh ∙ rw (n₁, m₁) refl in
     let s₂ = putCells s₁ i es in
     let k = store-elsewhere r es t wh hi ht in
     let far : 64 ≤ length s = omega (arith, inside-stamp s i wh hi, stampAt-high s i) in
@@ -226,16 +226,16 @@ pub flag-is : (r : Ring) (es : List ColumnValue) (t : ℕ) → write r es t .wra
 unfolding write
 flag-is r es t = store-flag r (cellsFor (r .slab) es t) t
 
-pub kept : (r : Ring) (es : List ColumnValue) (t : ℕ) → 64 ≤ length (r .slab) → slotOf (r .slab) t < 2 ^ 32 → Kept (r .slab) (slotOf (r .slab) t) (write r es t .slab)
+pub kept : (r : Ring) (es : List ColumnValue) (t : ℕ) → 64 ≤ length (r .slab) → slotOf (r .slab) t < 2 ^ 32 → SlabKept (r .slab) (slotOf (r .slab) t) (write r es t .slab)
 unfolding write
 kept r es t hl hi = store-kept r (cellsFor (r .slab) es t) t hl hi
 
-pub elsewhere : (r : Ring) (es : List ColumnValue) (t : ℕ) → Whole (r .slab) → slotOf (r .slab) t < slots (r .slab) → t < 2 ^ 64
+pub elsewhere : (r : Ring) (es : List ColumnValue) (t : ℕ) → FullLength (r .slab) → slotOf (r .slab) t < slots (r .slab) → t < 2 ^ 64
     → Elsewhere (r .slab) (slotOf (r .slab) t) t (write r es t .slab)
 unfolding write
 elsewhere r es t wh hi ht = store-elsewhere r (cellsFor (r .slab) es t) t wh hi ht
 
-pub wrote : (r : Ring) (es : List ColumnValue) (t : ℕ) → Whole (r .slab) → slots (r .slab) < 2 ^ 32 → slotOf (r .slab) t < slots (r .slab) → t < 2 ^ 64
+pub wrote : (r : Ring) (es : List ColumnValue) (t : ℕ) → FullLength (r .slab) → slots (r .slab) < 2 ^ 32 → slotOf (r .slab) t < slots (r .slab) → t < 2 ^ 64
     → Fit (series (r .slab)) es → Wrote (r .slab) (slotOf (r .slab) t) t es (write r es t .slab)
 unfolding write cellsFor
 wrote r es t wh hn hi ht f = store-wrote r es t wh hn hi ht f

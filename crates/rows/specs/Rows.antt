@@ -1,16 +1,16 @@
 -- Rows by index, as loops over them go: the rows from one on, below another; the shape as the code tests it. Assumes nothing.
-use Prim.Native.Nat.{ℕ, zero, suc, _+_, _*_, _-_, _≤_, _<_}
+use Prim.Native.Nat.{ℕ, suc, _+_, _*_, _-_, _≤_, _<_}
 use native.Mathlib.Nat.{sub-zero}
 use native.Mathlib.Numerals.{add-one}
 use native.Mathlib.Omega.{arith}
-use mathlib.Core.Path.{_≡_, refl, sym, ap, _∙_}
-use mathlib.Core.Bool.{Bool, true, false, _&&_}
+use mathlib.Core.Path.{_≡_}
+use mathlib.Core.Bool.{Bool, true, _&&_}
 use mathlib.Core.List.{List, [], _∷_}
 use lib.ListN.{length}
-use lib.Dec.{eqb, leb}
+use lib.Dec.{leb}
 use Rattle.model.specs.declared.Row.{Row}
 use Rattle.model.specs.Bytes.{get}
-use Rattle.model.specs.Image.{rowAt, rowsFrom, rows, rowCount, schemas, rowPlace, every, inOrder, orderly, rowShape, header, shape, blank, blankRow, totalLength}
+use Rattle.model.specs.Image.{rowAt, rowsFrom, rows, rowCount, schemas, rowPlace, every, orderly, rowShape, header, shape}
 use Rattle.frame.specs.Checks.{shape-parts}
 use Rattle.rows.specs.Tests.{and-assoc}
 

@@ -1,5 +1,5 @@
 -- A schema's tiers by where its first one stands. Assumes nothing.
-use Prim.Native.Nat.{ℕ, zero, suc, _+_}
+use Prim.Native.Nat.{ℕ, _+_}
 use mathlib.Core.List.{List, [], _∷_}
 use Rattle.model.specs.declared.Row.{Row}
 use Rattle.model.specs.Image.{tiersOf, rowAt}

@@ -4,7 +4,7 @@ ghost use Prim.Native.Nat.{_+_, _-_, _*_, _≤_};
 ghost use lib.ListN.{length, replicate};
 ghost use Rattle.model.specs.Bytes.{bytes, splice};
 ghost use Rattle.model.specs.Layout.{copies, freshValue, freshHead, freshSlab, slabLength};
-ghost use Rattle.model.specs.Image.{soundFields, sound, rowSlots};
+ghost use Rattle.model.specs.Image.{soundFields, sound};
 
 // A slab's header by its fields, for a row with n slots.
 fn fields_sound(

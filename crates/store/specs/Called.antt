@@ -9,7 +9,7 @@ use Rattle.model.specs.declared.Outcome.the-variants as O
 use Rattle.model.specs.Words.{numberOf, number-pos, outcomeNo}
 use Rattle.model.specs.Lent.{Lent}
 use Rattle.model.specs.Record.{Entry}
-use Rattle.model.specs.Store.{Call, Done, recordCall, batchCall, Reply, refused, doneOr, call, outcomeReply}
+use Rattle.model.specs.Store.{Done, recordCall, batchCall, Reply, refused, doneOr, call, outcomeReply}
 use Rattle.record.specs.Done.{RecordDone}
 use Rattle.batch.specs.Done.{BatchDone}
 

@@ -2,14 +2,14 @@
 -- newest stamp's pass is its lap. Where a later stamp is read before an earlier one, its pass is later too, and a lap of one of the two lies between the
 -- passes. Assumes nothing.
 use Prim.Native.Nat.{ℕ, zero, suc, _+_, _-_, _*_, _/_, _%_, _≤_, _<_}
-use native.Mathlib.Nat.{suc-mul, zero-mul, mul-zero, one-mul, mul-comm, mul-assoc, add-mul, mul-le-mul-right}
-use native.Mathlib.Nat.{add-mul-mod-self-right, div-zero, div-self, mod-lt, mod-self, add-mod-left, mod-eq-of-lt, mod-eq-sub-mod, mod-add-div', le-div-iff-mul-le, div-mul-le-self, lt-div-mul-add, mul-div-cancel}
+use native.Mathlib.Nat.{suc-mul, zero-mul, mul-zero, mul-comm, mul-assoc, add-mul, mul-le-mul-right}
+use native.Mathlib.Nat.{add-mul-mod-self-right, mod-lt, mod-self, add-mod-left, mod-eq-of-lt, mod-eq-sub-mod, mod-add-div', div-mul-le-self, lt-div-mul-add}
 use native.Mathlib.Omega.{arith}
 use native.Mathlib.Decide.{decLt, ℕ-discrete}
 use mathlib.Core.Path.{_≡_, refl, sym, ap, _∙_, subst}
 use mathlib.Core.Logic.{_⊎_, inl, inr, _≢_}
 use mathlib.Core.Bool.{Bool, true, false, cond}
-use mathlib.Core.List.{List, [], _∷_}
+use mathlib.Core.List.{List, _∷_}
 use Rattle.model.specs.Ring.{Ring, slots, cursor, walk, isEmpty, firstPlace, order}
 use Rattle.laws.specs.Windows.{div-mono}
 use Rattle.rings.specs.Numbers.{slotsOf, walk-is, div-is}

@@ -1,18 +1,17 @@
 -- The surplus is never read (document 01: "a plan's or image's slice may be longer than it, and the surplus is never read"): opening goes by the image alone,
 -- creation by the plan alone. Assumes nothing.
-use Prim.Native.Nat.{ℕ, zero, suc, _+_, _*_, _≤_, _<_}
+use Prim.Native.Nat.{ℕ, zero, suc, _+_, _≤_}
 use native.Mathlib.Omega.{arith}
-use mathlib.Core.Path.{_≡_, refl, sym, ap, _∙_, subst}
+use mathlib.Core.Path.{_≡_, refl, sym, _∙_}
 use mathlib.Core.Bool.{Bool, true, false, _&&_}
-use mathlib.Core.List.{List, [], _∷_, _++_}
-use lib.ListN.{length, take, drop}
+use mathlib.Core.List.{List, [], _∷_}
+use lib.ListN.{length, take}
 use lib.Dec.{leb, eqb}
 use Rattle.laws.specs.Tests.{yes-le, eq-is, split3}
 use Rattle.laws.specs.Checks.{each-zero, unless-zero}
 use Rattle.model.specs.declared.Row.{Row}
 use Rattle.model.specs.Bytes.{part}
-use Rattle.model.specs.Image.{unless, first, rowCount, totalLength, rowPlace, rowAt, rows, rowsFrom, rowLength, slabsEnd, imageLength, shape, blank, layoutCheck, placed, slabOf, sound, soundAll, planCheck, createCheck, openCheck, freshImage}
-use Rattle.model.specs.Ring.{wrapFlag}
+use Rattle.model.specs.Image.{unless, first, rowCount, totalLength, rowPlace, rows, rowLength, slabsEnd, imageLength, shape, layoutCheck, placed, slabOf, soundAll, planCheck, createCheck, openCheck, freshImage}
 use Rattle.model.specs.Lent.{Lent, wrapFlags, openOn, opening, createOn, creation}
 use Rattle.layout.specs.Ends.{ends-ge}
 use Rattle.surplus.specs.Agree.{Agree, part-same, count-same, total-same, rows-same, length-same, layout-same, blank-same, shape-same}

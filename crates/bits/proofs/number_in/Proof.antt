@@ -1,7 +1,7 @@
 -- `bits::number_in` meets its contract. The number so far is that of the flags from i on. Assumes nothing.
 use Prim.Native.Nat.{_-_, _^_, _≤_, _<_}
 use native.Mathlib.Omega.{arith}
-use mathlib.Core.Path.{_≡_, refl, _∙_}
+use mathlib.Core.Path.{_≡_}
 use lib.ListN.{length, drop}
 use borrow.Author.Needs.{needs}
 use Rattle.bits.specs.Bits.{number, rest-fits, number-none, number-turn, bits-of-number}

@@ -1,5 +1,4 @@
 -- `cycle::ask_after` meets its contract, by what each of the calls ensures and the theorem. Assumes nothing.
-use mathlib.Core.Path.{_∙_}
 use Rattle.calls.specs.Encoded.{callsIn}
 use Rattle.cycle.specs.Resumed.{history, asks, resumed}
 use Rattle.cycle.proofs.ask_after.Statement.{statement}

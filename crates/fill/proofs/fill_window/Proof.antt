@@ -11,7 +11,7 @@ use Rattle.model.specs.Consolidate.{Filled, writeAnswer, fillWindow}
 use Rattle.rows.specs.First.{not-accepted}
 use Rattle.answers.specs.declared.Filling.{Filling}
 use Rattle.fill.specs.declared.Pair.{Pair}
-use Rattle.fill.specs.Parts.{Keeps, jobOf, filledIn}
+use Rattle.fill.specs.Parts.{Keeps, pairJob, filledIn}
 use Rattle.fill.proofs.Kept.{keeps-same, keeps-then, job-kept, covers-kept}
 use Rattle.fill.proofs.Laws.{column-turn, column-last, columns-done}
 use borrow.Author.Needs.{needs}
@@ -24,8 +24,8 @@ record Written (s0 s : List ℕ) (p : Pair) (window : ℕ) (filling done : Filli
   keeps : Keeps s0 s p
   fine : done .outcome ≡ Accepted
   few : done .writes ≤ filling .writes + column
-  left : fillWindow (jobOf s0 p) (filledIn s p done) window column (p .reading .series - column)
-      ≡ fillWindow (jobOf s0 p) (filledIn s0 p filling) window 0 (p .reading .series)
+  left : fillWindow (pairJob s0 p) (filledIn s p done) window column (p .reading .series - column)
+      ≡ fillWindow (pairJob s0 p) (filledIn s0 p filling) window 0 (p .reading .series)
 
 abbrev Inv-loop : tie.InvT-loop
 Inv-loop image₀ p window place m done₀ column₀ image done column = Written image₀ image p window done₀ done column
@@ -58,7 +58,7 @@ module _ (w : tie.After-fill-column Inv-loop μ-loop) where
 
   fills : let a = start at .args in
       filledIn (w .fill-column .last .0) pair (w .fill-column .result)
-      ≡ writeAnswer (windowAnswer (jobOf before pair) (a .window) (at .loop .column)) so-far (a .window) (at .loop .column)
+      ≡ writeAnswer (windowAnswer (pairJob before pair) (a .window) (at .loop .column)) so-far (a .window) (at .loop .column)
   fills =
       let a = start at .args in
       w .fill-column .ensures .0
@@ -103,7 +103,7 @@ returns c =
     let w = filled (c .before .before) in
     let l = test w in
     let a = start l .args in
-    let last = column-last (jobOf (a .image .now) (a .p)) (a .window) (so-far w) (a .p .reading .series) (l .loop .column) (w .before .before .loop-test .taken)
+    let last = column-last (pairJob (a .image .now) (a .p)) (a .window) (so-far w) (a .p .reading .series) (l .loop .column) (w .before .before .loop-test .taken)
     (ap outcomeNo (l .loop .inv .fine)) (fills w) (l .loop .inv .left)
     (not-accepted (c .enum-told2 .given .1)) in
     (last, (kept w, omega (arith, w .fill-column .ensures .1 .1, l .loop .inv .few)))
@@ -124,7 +124,7 @@ loop-again c =
       keeps = kept w;
       fine = c .enum-told .given .1;
       few = omega (arith, w .fill-column .ensures .1 .1, l .loop .inv .few);
-      left = column-turn (jobOf (a .image .now) (a .p)) (a .window) (so-far w) (a .p .reading .series) (l .loop .column) (w .before .before .loop-test .taken)
+      left = column-turn (pairJob (a .image .now) (a .p)) (a .window) (so-far w) (a .p .reading .series) (l .loop .column) (w .before .before .loop-test .taken)
           (ap outcomeNo (l .loop .inv .fine)) (fills w) (l .loop .inv .left);
     }
 
@@ -136,7 +136,7 @@ returns-2 c =
     let l = c .before in
     let a = start l .args in
     let i = l .loop .inv in (
-      columns-done (jobOf (a .image .now) (a .p)) (a .window) (filledIn (l .loop .image) (a .p) (l .loop .done)) (l .loop .column)
+      columns-done (pairJob (a .image .now) (a .p)) (a .window) (filledIn (l .loop .image) (a .p) (l .loop .done)) (l .loop .column)
           (a .p .reading .series - l .loop .column) (omega arith) (i .left),
       (i .keeps, omega (arith, i .few)),
     )

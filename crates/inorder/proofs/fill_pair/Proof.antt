@@ -14,7 +14,7 @@ use Rattle.span.specs.Strand.{Stranded}
 use Rattle.span.specs.Rest.{empty-range}
 use Rattle.answers.specs.declared.Filling.{Filling}
 use Rattle.fill.specs.declared.Pair.{Pair}
-use Rattle.fill.specs.Parts.{Keeps, Whole, sourceIn, jobOf, filledIn}
+use Rattle.fill.specs.Parts.{Keeps, WholeOrder, sourceIn, pairJob, filledIn}
 use Rattle.fill.proofs.Kept.{keeps-same, keeps-then}
 use Rattle.inorder.specs.Parts.{allFilled, inPart}
 use Rattle.inorder.proofs.Laws.{first-whole}
@@ -28,9 +28,9 @@ use Rattle.inorder.proofs.fill_pair.Tie as tie
 record Passing (s0 s : List ℕ) (p : Pair) (filling done : Filling) (start strands : ℕ) : Type 0 where
   keeps : Keeps s0 s p
   fine : done .outcome ≡ Accepted
-  left : fill (onward (jobOf s0 p) start) (filledIn s p done) (windows (onward (jobOf s0 p) start)) (p .reading .series)
+  left : fill (onward (pairJob s0 p) start) (filledIn s p done) (windows (onward (pairJob s0 p) start)) (p .reading .series)
       ≡ allFilled s0 p filling
-  counted : Strands (jobOf s0 p) strands start
+  counted : Strands (pairJob s0 p) strands start
   few : strands ≤ start
 
 abbrev Inv-loop : tie.InvT-loop
@@ -61,7 +61,7 @@ filled c = c .before .before
 abbrev total : tie.At-loop Inv-loop μ-loop → Filled
 total l = let a = start l .args in allFilled (a .image .now) (a .p) (a .filling)
 
-whole : (l : tie.At-loop Inv-loop μ-loop) → let a = start l .args in Whole (sourceIn (a .image .now) (a .p)) (a .p .reading) (l .before .first-place .result)
+whole : (l : tie.At-loop Inv-loop μ-loop) → let a = start l .args in WholeOrder (sourceIn (a .image .now) (a .p)) (a .p .reading) (l .before .first-place .result)
 unfolding part
 whole l =
     let a = start l .args in
@@ -69,14 +69,14 @@ whole l =
     first-whole (sourceIn (a .image .now) (a .p)) (a .p .reading) (start l .pre .0 .readable) (f .0) (f .1) (f .2)
 
 stranded : (k : tie.After-next-strand Inv-loop μ-loop)
-    → let l = test k in let p = start l .args .p in Stranded (onward (jobOf (l .loop .image) p) (l .loop .start)) (p .reading .slots) (l .before .first-place .result) (k .next-strand .result)
+    → let l = test k in let p = start l .args .p in Stranded (onward (pairJob (l .loop .image) p) (l .loop .start)) (p .reading .slots) (l .before .first-place .result) (k .next-strand .result)
 unfolding part
 stranded k = k .next-strand .ensures
 
 few-writes : (l : tie.At-loop Inv-loop μ-loop) → let a = start l .args in l .loop .done .writes ≤ a .filling .writes + a .p .reading .series * a .p .reading .slots
 few-writes l =
     let a = start l .args in
-    let q = onward (jobOf (a .image .now) (a .p)) (l .loop .start) in
+    let q = onward (pairJob (a .image .now) (a .p)) (l .loop .start) in
     writes-few (a .image .now) (a .p) (start l .pre .0) q (windows q) (a .p .reading .series) (filledIn (l .loop .image) (a .p) (l .loop .done))
     (filledIn (a .image .now) (a .p) (a .filling)) (l .loop .inv .left)
 
@@ -93,7 +93,7 @@ module _ (k : tie.After-next-strand Inv-loop μ-loop) where
       let a = start l .args in
       gone-on (a .image .now) (l .loop .image) (a .p) (l .loop .start) (start l .pre .0) (l .loop .inv .keeps) (whole l) (stranded k) (k .before .before .before .if1 .taken)
 
-  counts : let l = test k in let a = start l .args in Strands (jobOf (a .image .now) (a .p)) (l .loop .strands + 1) (k .next-strand .result .end)
+  counts : let l = test k in let a = start l .args in Strands (pairJob (a .image .now) (a .p)) (l .loop .strands + 1) (k .next-strand .result .end)
   counts =
       let l = test k in
       let a = start l .args in
@@ -175,7 +175,7 @@ module _ (w : tie.After-fill-runs Inv-loop μ-loop) where
   abbrev image : List ℕ
   image = w .fill-runs .last .0
 
-  fills : let q = jobOf (at .loop .image) (inPart pair (at .loop .start) end) in
+  fills : let q = pairJob (at .loop .image) (inPart pair (at .loop .start) end) in
       filledIn image pair (w .fill-runs .result) ≡ fill q (filledIn (at .loop .image) pair (at .loop .done)) (windows q) (pair .reading .series)
   fills = rw (w .before .before .before .part-of .ensures) at (w .fill-runs .ensures .0)
 
@@ -185,7 +185,7 @@ module _ (w : tie.After-fill-runs Inv-loop μ-loop) where
       keeps-then (start at .args .image .now) (at .loop .image) image pair (start at .pre .0) i
       (keeps-part (i .lies) (at .loop .start) end (rw (w .before .before .before .part-of .ensures) at (w .fill-runs .ensures .1 .0)))
 
-  leaves : let q = onward (jobOf (start at .args .image .now) pair) end in fill q (filledIn image pair (w .fill-runs .result)) (windows q) (pair .reading .series) ≡ total at
+  leaves : let q = onward (pairJob (start at .args .image .now) pair) end in fill q (filledIn image pair (w .fill-runs .result)) (windows q) (pair .reading .series) ≡ total at
   leaves =
       part-turn (start at .args .image .now) (at .loop .image) pair (at .loop .start) (start at .pre .0) (at .loop .inv .keeps) (whole at) (stranded (strand w))
       (at .loop .done) (at .loop .inv .left) image (w .fill-runs .result) fills
@@ -198,7 +198,7 @@ returns c =
     let w = filled (c .before .before) in
     let l = test (strand w) in
     let a = start l .args in
-    let q = onward (jobOf (a .image .now) (a .p)) (end w) in
+    let q = onward (pairJob (a .image .now) (a .p)) (end w) in
     let last = part-last (a .image .now) (l .loop .image) (a .p) (l .loop .start) (start l .pre .0) (l .loop .inv .keeps) (whole l) (stranded (strand w))
     (l .loop .done) (l .loop .inv .left) (image w) (w .fill-runs .result) (fills w)
     (not-accepted (c .enum-told2 .given .1)) in
@@ -223,7 +223,7 @@ returns-2 c =
     let l = c .before .before in
     let a = start l .args in
     let i = l .loop .inv in
-    let q = onward (jobOf (a .image .now) (a .p)) (l .loop .start) in
+    let q = onward (pairJob (a .image .now) (a .p)) (l .loop .start) in
     let done = empty-range q (a .p .reading .series) (filledIn (l .loop .image) (a .p) (l .loop .done)) (omega arith) ∙ i .left in
     (done, ((i .keeps, few-writes l), passes (i .counted)))
 

@@ -16,7 +16,7 @@ use Rattle.span.specs.Parts.{Ran}
 use Rattle.span.specs.Rest.{Rest}
 use Rattle.answers.specs.declared.Filling.{Filling}
 use Rattle.fill.specs.declared.Pair.{Pair}
-use Rattle.fill.specs.Parts.{Keeps, sourceIn, jobOf, filledIn}
+use Rattle.fill.specs.Parts.{Keeps, sourceIn, pairJob, filledIn}
 use Rattle.fill.proofs.Kept.{keeps-same, keeps-then, job-kept, covers-kept}
 use Rattle.inorder.specs.Parts.{allFilled}
 use Rattle.inorder.proofs.Laws.{run-covers, run-turn, run-last, runs-done, fewer-left}
@@ -31,7 +31,7 @@ record Running (s0 s : List ℕ) (p : Pair) (filling done : Filling) (slot left 
   keeps : Keeps s0 s p
   fine : done .outcome ≡ Accepted
   few : done .writes + p .reading .series * left ≤ filling .writes + p .reading .series * p .reading .slots
-  rest : Rest (jobOf s0 p) (p .reading .series) (allFilled s0 p filling) (filledIn s p done)
+  rest : Rest (pairJob s0 p) (p .reading .series) (allFilled s0 p filling) (filledIn s p done)
       (walk (p .reading .slots) slot left)
 
 abbrev Inv-loop : tie.InvT-loop
@@ -87,7 +87,7 @@ module _ (w : tie.After-fill-window Inv-loop μ-loop) where
   before = start at .args .image .now
 
   fills : filledIn (w .fill-window .last .0) pair (w .fill-window .result)
-      ≡ fillWindow (jobOf before pair) (filledIn (at .loop .image) pair (at .loop .done)) (run .next-run .result .window) 0 (pair .reading .series)
+      ≡ fillWindow (pairJob before pair) (filledIn (at .loop .image) pair (at .loop .done)) (run .next-run .result .window) 0 (pair .reading .series)
   fills =
       let f = filledIn (at .loop .image) pair (at .loop .done) in
       w .fill-window .ensures .0

@@ -1,6 +1,5 @@
 -- `quick::ends` meets its contract: the tests that were passed are the facts. Assumes nothing.
 use mathlib.Core.Bool.{false≢true}
-use native.Mathlib.Omega.{arith}
 use Rattle.laws.specs.Tests.{eq-is}
 use Rattle.quick.proofs.Laws.{ends-is}
 use borrow.Author.Needs.{needs}

@@ -20,11 +20,11 @@ mul-at c = search needs
 add-at : tie.Need-add-at
 add-at c = search needs
 
-add-pair : tie.Need-add-pair
-add-pair c = search needs
+add-two-u32 : tie.Need-add-two-u32
+add-two-u32 c = search needs
 
-pair-requires : tie.Need-pair-requires
-pair-requires c κs = search needs
+two-u32-requires : tie.Need-two-u32-requires
+two-u32-requires c κs = search needs
 
 wrapping-sub-u64-requires : tie.Need-wrapping-sub-u64-requires
 wrapping-sub-u64-requires c κs = search needs
@@ -61,7 +61,7 @@ returns-4 c =
     let h = hashed c in
     let f = shared h in
     let a = start h in
-    followed-is (a .args .s .now) (a .args .i) (a .args .p) (a .pre .1) (f .before .before .pair .ensures) (f .before .wrapping-sub-u64 .ensures) (f .if1 .left)
+    followed-is (a .args .s .now) (a .args .i) (a .args .p) (a .pre .1) (f .before .before .two-u32 .ensures) (f .before .wrapping-sub-u64 .ensures) (f .if1 .left)
     (h .before .before .get-u64 .ensures) (h .if2 .left) (c .before .before .get-u642 .ensures) (c .before .get-u643 .ensures) (c .if3 .left)
 
 pub follows-spec : {M : Type 1} → statement M
@@ -70,8 +70,8 @@ follows-spec =
     (tie.spec
     mul-at
     add-at
-    add-pair
-    pair-requires
+    add-two-u32
+    two-u32-requires
     wrapping-sub-u64-requires
     returns
     add-get-u64

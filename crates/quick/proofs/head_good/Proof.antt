@@ -3,7 +3,7 @@ use mathlib.Core.Bool.{false≢true}
 use native.Mathlib.Omega.{arith}
 use Rattle.laws.specs.Tests.{le-is}
 use Rattle.model.specs.Image.{rowCount, totalLength}
-use mathlib.Core.Path.{_≡_, sym, _∙_}
+use mathlib.Core.Path.{sym, _∙_}
 use Prim.Native.Nat.{_+_, _*_, _/_}
 use Rattle.quick.proofs.Laws.{or-zero}
 use borrow.Author.Needs.{needs}
@@ -11,14 +11,14 @@ use Rattle.quick.proofs.head_good.Statement.{statement}
 use Rattle.quick.proofs.head_good.Tie as tie
 
 -- the image is as long as it says; back to where its name was read
-abbrev named : tie.Else3 → tie.After-pair
+abbrev named : tie.Else3 → tie.After-two-u32
 named c = c .before .before .before
 
 returns : tie.Need-returns
 returns c = λ e. absurd (false≢true e)
 
-pair-requires : tie.Need-pair-requires
-pair-requires c κs = search needs
+two-u32-requires : tie.Need-two-u32-requires
+two-u32-requires c κs = search needs
 
 returns-2 : tie.Need-returns-2
 returns-2 c = λ e. absurd (false≢true e)
@@ -48,7 +48,7 @@ returns-5 : tie.Need-returns-5
 unfolding rowCount totalLength
 returns-5 c =
     let sized = c .before .before .before in
-    let name = named sized .pair .ensures in
+    let name = named sized .two-u32 .ensures in
     let is = sized .before .before .if2 .left in
     let total = sized .before .get-u64 .ensures in
     let zeros = or-zero (sized .before .get-u64 .result / 1_099_511_627_776) (c .before .before .get-u642 .result) (c .before .if4 .left) in
@@ -67,7 +67,7 @@ head-good-spec =
     tie.close
     (tie.spec
     returns
-    pair-requires
+    two-u32-requires
     returns-2
     get-u64-requires
     returns-3

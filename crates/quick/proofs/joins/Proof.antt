@@ -8,7 +8,7 @@ use Rattle.quick.proofs.joins.Statement.{statement}
 use Rattle.quick.proofs.joins.Tie as tie
 
 -- both rows' words are read; back to the start
-abbrev start : tie.After-pair2 → tie.Start
+abbrev start : tie.After-two-u322 → tie.Start
 start c = c .before .before .before
 
 mul-at : tie.Need-mul-at
@@ -17,17 +17,17 @@ mul-at c = search needs
 add-at : tie.Need-add-at
 add-at c = search needs
 
-pair-requires : tie.Need-pair-requires
-pair-requires c κs = search needs
+two-u32-requires : tie.Need-two-u32-requires
+two-u32-requires c κs = search needs
 
-add-pair : tie.Need-add-pair
-add-pair c = search needs
+add-two-u32 : tie.Need-add-two-u32
+add-two-u32 c = search needs
 
-pair-requires-2 : tie.Need-pair-requires-2
-pair-requires-2 c κs = search needs
+two-u32-requires-2 : tie.Need-two-u32-requires-2
+two-u32-requires-2 c κs = search needs
 
 add-if1 : tie.Need-add-if1
-add-if1 c = let p = start c .pre in omega (arith, c .before .pair .ensures .0, schema-low (p .2), tier-low (p .2), p .1)
+add-if1 c = let p = start c .pre in omega (arith, c .before .two-u32 .ensures .0, schema-low (p .2), tier-low (p .2), p .1)
 
 follows-requires : tie.Need-follows-requires
 follows-requires c κs = let p = start (c .before) .pre in (p .0, p .3)
@@ -37,7 +37,7 @@ returns c =
     let d = c .before .before in
     let s = start d .args .s .now in
     let i = start d .args .i in
-    good-map (Followed s i) (Joined s i) (λ q. next-tier s i (d .before .pair .ensures) (d .pair2 .ensures) (c .before .if1 .taken)) (c .follows .result) (c .follows .ensures)
+    good-map (Followed s i) (Joined s i) (λ q. next-tier s i (d .before .two-u32 .ensures) (d .two-u322 .ensures) (c .before .if1 .taken)) (c .follows .result) (c .follows .ensures)
 
 get-u32-requires : tie.Need-get-u32-requires
 get-u32-requires c κs = search needs
@@ -64,9 +64,9 @@ joins-spec =
     (tie.spec
     mul-at
     add-at
-    pair-requires
-    add-pair
-    pair-requires-2
+    two-u32-requires
+    add-two-u32
+    two-u32-requires-2
     add-if1
     follows-requires
     returns

@@ -5,14 +5,14 @@ use borrow.Author.Needs.{needs}
 use Rattle.quick.proofs.next_tier.Statement.{statement}
 use Rattle.quick.proofs.next_tier.Tie as tie
 
-mul-pair : tie.Need-mul-pair
-mul-pair c = search needs
+mul-two-u32 : tie.Need-mul-two-u32
+mul-two-u32 c = search needs
 
-add-pair : tie.Need-add-pair
-add-pair c = search needs
+add-two-u32 : tie.Need-add-two-u32
+add-two-u32 c = search needs
 
-pair-requires : tie.Need-pair-requires
-pair-requires c κs = search needs
+two-u32-requires : tie.Need-two-u32-requires
+two-u32-requires c κs = search needs
 
 add-if1 : tie.Need-add-if1
 add-if1 c = search needs
@@ -30,9 +30,9 @@ returns-2 : tie.Need-returns-2
 returns-2 c =
     let s = c .before .before .before .before .args .s .now in
     let i = c .before .before .before .before .args .i in
-    good-map (Followed s i) (NextTier s i) (λ q. next-only s i (c .before .before .before .before .pre .2) (c .before .before .pair .ensures) (c .before .if1 .left)) (c .follows .result) (c .follows .ensures)
+    good-map (Followed s i) (NextTier s i) (λ q. next-only s i (c .before .before .before .before .pre .2) (c .before .before .two-u32 .ensures) (c .before .if1 .left)) (c .follows .result) (c .follows .ensures)
 
 pub next-tier-spec : {M : Type 1} → statement M
 next-tier-spec =
     tie.close
-    (tie.spec mul-pair add-pair pair-requires add-if1 mul-if1 returns follows-requires returns-2)
+    (tie.spec mul-two-u32 add-two-u32 two-u32-requires add-if1 mul-if1 returns follows-requires returns-2)

@@ -23,8 +23,8 @@ start d = named d .before .before .before .before .before .before
 abbrev shared : tie.Else4 → Shared
 shared d = start d .args .p
 
-pair-requires : tie.Need-pair-requires
-pair-requires c κs = search needs
+two-u32-requires : tie.Need-two-u32-requires
+two-u32-requires c κs = search needs
 
 returns : tie.Need-returns
 returns c = λ e. absurd (false≢true e)
@@ -38,11 +38,11 @@ get-u64-requires c κs = search needs
 returns-2 : tie.Need-returns-2
 returns-2 c = λ e. absurd (false≢true e)
 
-add-pair : tie.Need-add-pair
-add-pair c = search needs
+add-two-u32 : tie.Need-add-two-u32
+add-two-u32 c = search needs
 
-pair-requires-2 : tie.Need-pair-requires-2
-pair-requires-2 c κs = search needs
+two-u32-requires-2 : tie.Need-two-u32-requires-2
+two-u32-requires-2 c κs = search needs
 
 wrapping-sub-u64-requires : tie.Need-wrapping-sub-u64-requires
 wrapping-sub-u64-requires c κs = search needs
@@ -92,21 +92,21 @@ returns-6 c =
     let e = named d in
     let a = start d .args in
     let p = start d .pre in
-    λ f. slab-is (a .s .now) (a .at) (a .r) (a .p .series) (a .p .hash) (p .1) (p .2) (e .before .before .before .before .pair .ensures) (e .before .before .before .if1 .left)
-    (e .before .before .get-u64 .ensures) (e .if2 .left) (words d .before .pair2 .ensures) (words d .wrapping-sub-u64 .ensures)
+    λ f. slab-is (a .s .now) (a .at) (a .r) (a .p .series) (a .p .hash) (p .1) (p .2) (e .before .before .before .before .two-u32 .ensures) (e .before .before .before .if1 .left)
+    (e .before .before .get-u64 .ensures) (e .if2 .left) (words d .before .two-u322 .ensures) (words d .wrapping-sub-u64 .ensures)
     (omega (arith, d .before .before .if3 .left)) (d .before .get-u32 .ensures .0) (d .if4 .left) (c .before .before .before .before .stamps-at .ensures) (c .before .if5 .left) (c .timed-good .ensures f)
 
 pub slab-good-spec : {M : Type 1} → statement M
 slab-good-spec =
     tie.close
     (tie.spec
-    pair-requires
+    two-u32-requires
     returns
     add-get-u64
     get-u64-requires
     returns-2
-    add-pair
-    pair-requires-2
+    add-two-u32
+    two-u32-requires-2
     wrapping-sub-u64-requires
     returns-3
     add-get-u32

@@ -18,8 +18,8 @@ mul-at c = search needs
 add-at : tie.Need-add-at
 add-at c = search needs
 
-pair-requires : tie.Need-pair-requires
-pair-requires c κs = search needs
+two-u32-requires : tie.Need-two-u32-requires
+two-u32-requires c κs = search needs
 
 returns : tie.Need-returns
 returns c = tt
@@ -56,7 +56,7 @@ returns-4 c =
     let d = named (c .before) in
     let a = start (c .before) in
     let series = c .before .before .get-u322 .ensures in
-    let first = start-is (a .args .s .now) (a .args .i) (a .args .k) (d .before .pair .ensures) (d .if1 .left) (a .pre .1)
+    let first = start-is (a .args .s .now) (a .args .i) (a .args .k) (d .before .two-u32 .ensures) (d .if1 .left) (a .pre .1)
     (c .before .before .before .before .get-u32 .ensures .0) (c .before .before .before .if2 .left) (series .0) (c .before .if3 .left) in
     known-start (a .args .s .now) (a .args .i) (a .args .k) _ first (series .0) (series .1) refl (c .get-u64 .ensures)
 
@@ -66,7 +66,7 @@ starts-spec =
     (tie.spec
     mul-at
     add-at
-    pair-requires
+    two-u32-requires
     returns
     add-get-u32
     get-u32-requires

@@ -5,7 +5,7 @@ use native.Mathlib.Omega.{arith}
 use mathlib.Core.Path.{_≡_, sym, ap, _∙_}
 use Prim.Native.Nat.{_+_, _*_, _^_, _<_}
 use Rattle.model.specs.Bytes.{get}
-use Rattle.quick.specs.Seen.{Low, get-pair}
+use Rattle.quick.specs.Seen.{Low, get-two}
 use borrow.Author.Needs.{needs}
 use borrow.Author.Tests.{not-false}
 use Rattle.quick.proofs.timed_good.Statement.{statement}
@@ -23,13 +23,13 @@ abbrev halved : tie.Else2 → tie.Else1
 halved c = c .before .before
 
 same : (c : tie.Else2) → let a = start (halved c) .args in get 8 (a .s .now) (a .at + 24) ≡ a .r .interval
-same c = let a = start (halved c) in get-pair (a .args .s .now) (a .args .at + 24) (omega (arith, a .pre .0)) ∙ sym (c .before .pair .ensures .0) ∙ c .if2 .left
+same c = let a = start (halved c) in get-two (a .args .s .now) (a .args .at + 24) (omega (arith, a .pre .0)) ∙ sym (c .before .two-u32 .ensures .0) ∙ c .if2 .left
 
 bounded : (c : tie.Else2) → let a = start (halved c) .args in a .n * a .r .interval + a .r .interval < 2 ^ 63
 bounded c =
     let a = start (halved c) .args in
     let four : a .at + 24 + 4 ≡ a .at + 28 = omega arith in
-    let halves = c .before .pair .ensures in
+    let halves = c .before .two-u32 .ensures in
     low (halved c) (a .r .interval) (omega (arith, c .if2 .left, halves .0, halves .1, ap (get 4 (a .s .now)) four, halved c .before .before .get-u32 .ensures .0))
 
 add-get-u32 : tie.Need-add-get-u32
@@ -44,11 +44,11 @@ is-low-requires c κs = let p = c .before .before .pre in (p .1, p .2, c .get-u3
 returns : tie.Need-returns
 returns c = λ e. absurd (false≢true e)
 
-add-pair : tie.Need-add-pair
-add-pair c = search needs
+add-two-u32 : tie.Need-add-two-u32
+add-two-u32 c = search needs
 
-pair-requires : tie.Need-pair-requires
-pair-requires c κs = search needs
+two-u32-requires : tie.Need-two-u32-requires
+two-u32-requires c κs = search needs
 
 returns-2 : tie.Need-returns-2
 returns-2 c = λ e. absurd (false≢true e)
@@ -67,8 +67,8 @@ timed-good-spec =
     get-u32-requires
     is-low-requires
     returns
-    add-pair
-    pair-requires
+    add-two-u32
+    two-u32-requires
     returns-2
     slots-good-requires
     returns-3)

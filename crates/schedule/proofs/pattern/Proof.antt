@@ -1,7 +1,6 @@
 -- `schedule::pattern` is safe and ends: the exponent goes down once a turn. Assumes nothing.
 use Prim.Native.Nat.{_+_, _-_, _≤_}
 use native.Mathlib.Omega.{arith}
-use borrow.Author.Needs.{needs}
 use Rattle.schedule.proofs.pattern.Statement.{statement}
 use Rattle.schedule.proofs.pattern.Tie as tie
 

@@ -1,6 +1,5 @@
 -- `schedule::tenths` is safe and ends: one bit less a turn. Assumes nothing.
 use native.Mathlib.Omega.{arith}
-use borrow.Author.Needs.{needs}
 use Rattle.schedule.proofs.tenths.Statement.{statement}
 use Rattle.schedule.proofs.tenths.Tie as tie
 

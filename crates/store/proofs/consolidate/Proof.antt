@@ -44,7 +44,7 @@ use Rattle.model.specs.declared.Consolidated.{Consolidated}
 use Rattle.model.specs.Store.{call, consolidateCall}
 use Rattle.lent.specs.Parts.{lentOf}
 use Rattle.consolidate.specs.declared.Consolidation.{Consolidation}
-use Rattle.consolidate.specs.Parts.{doneOf}
+use Rattle.consolidate.specs.Parts.{runDone}
 use Rattle.model.proofs.Flags as F
 use Rattle.model.proofs.Flags.Laws as F′
 use Rattle.model.proofs.Consolidated as P
@@ -113,7 +113,7 @@ module _ {M : Type 1} (𝓤 : URA M) (H : Heap 𝓤) (A : Atoms 𝓤) (W : Given
 
   -- what the callee says of its answer t and the image zs that it leaves
   abbrev Said : Consolidation → List ℕ → Type 0
-  Said t zs = doneOf zs t ≡ call (lentOf ys f) consolidateCall
+  Said t zs = runDone zs t ≡ call (lentOf ys f) consolidateCall
 
   exits : (t : Consolidation) (zs : List ℕ) → Said t zs → length zs ≡ length ys → Is P.the-row (t .answer) (cv (t .answer) ∷ [])
       → ent 𝓤 (⋆ 𝓤 H A (‵ (fobs γ (F.the-row .coded .code (t .flags))) ∷ ‵ (fbor κ′ (Body (mem F.the-row) b o γ)) ∷ ‵ (flft κ′ q′) ∷ (‵ (flft κ q) ⊛ ‵ ftrue) ∷ ‵ (finally u8 γi zs) ∷ [])) (Post (cv (t .answer)))
