@@ -2,7 +2,7 @@
 //! lost on the way, as when a cabinet is switched off, and opening works them out.
 //! tour.c does the same in C and prints the same. The standard library alone.
 
-/// The calls of libedge.a, as include/rondo.h has them.
+/// The calls of librondo.a, as include/rondo.h has them.
 mod edge {
     #[repr(C)]
     #[derive(Default)]
@@ -50,7 +50,7 @@ mod edge {
     }
 }
 
-use edge::Answer;
+use rondo::Answer;
 
 /// A store in memory of its own: each call is safe, since a slice's pointer and length go together.
 struct Store {
@@ -61,23 +61,23 @@ struct Store {
 impl Store {
     fn create(plan: &[u8]) -> Result<Self, u32> {
         let mut size = 0;
-        accepted(unsafe { edge::rondo_image_size(plan.as_ptr(), plan.len(), &mut size) })?;
+        accepted(unsafe { rondo::rondo_image_size(plan.as_ptr(), plan.len(), &mut size) })?;
         let mut s = Store { image: vec![0; size as usize], flags: 0 };
         let (p, i) = (plan, &mut s.image);
-        accepted(unsafe { edge::rondo_create(p.as_ptr(), p.len(), i.as_mut_ptr(), i.len(), &mut s.flags) })?;
+        accepted(unsafe { rondo::rondo_create(p.as_ptr(), p.len(), i.as_mut_ptr(), i.len(), &mut s.flags) })?;
         Ok(s)
     }
 
     fn open(&self) -> Result<u32, u32> {
         let mut flags = 0;
-        accepted(unsafe { edge::rondo_open(self.image.as_ptr(), self.image.len(), &mut flags) })?;
+        accepted(unsafe { rondo::rondo_open(self.image.as_ptr(), self.image.len(), &mut flags) })?;
         Ok(flags)
     }
 
     fn record(&mut self, column: u32, value: f64, stamp: u64) -> Result<(), u32> {
         let i = &mut self.image;
         let (p, len, bits) = (i.as_mut_ptr(), i.len(), value.to_bits());
-        accepted(unsafe { edge::rondo_record(p, len, &mut self.flags, 0, column, bits, stamp) })
+        accepted(unsafe { rondo::rondo_record(p, len, &mut self.flags, 0, column, bits, stamp) })
     }
 
     fn batch(&mut self, values: &[f64], stamp: u64) -> Result<(), u32> {
@@ -89,19 +89,19 @@ impl Store {
         }
         let i = &mut self.image;
         let (p, len) = (i.as_mut_ptr(), i.len());
-        accepted(unsafe { edge::rondo_record_batch(p, len, &mut self.flags, e.as_ptr(), e.len(), stamp) })
+        accepted(unsafe { rondo::rondo_record_batch(p, len, &mut self.flags, e.as_ptr(), e.len(), stamp) })
     }
 
     fn consolidate(&mut self) -> Result<u64, u32> {
         let (i, mut count) = (&mut self.image, 0);
-        accepted(unsafe { edge::rondo_consolidate(i.as_mut_ptr(), i.len(), &mut self.flags, &mut count) })?;
+        accepted(unsafe { rondo::rondo_consolidate(i.as_mut_ptr(), i.len(), &mut self.flags, &mut count) })?;
         Ok(count)
     }
 
     fn query(&self, column: u32, tier: u32, start: u64, end: u64) -> Result<Answer, u32> {
         let (i, mut a) = (&self.image, Answer::default());
         accepted(unsafe {
-            edge::rondo_query(i.as_ptr(), i.len(), self.flags, 0, column, tier, start, end, &mut a)
+            rondo::rondo_query(i.as_ptr(), i.len(), self.flags, 0, column, tier, start, end, &mut a)
         })?;
         Ok(a)
     }
@@ -109,7 +109,7 @@ impl Store {
     fn query_auto(&self, column: u32, start: u64, end: u64) -> Result<Answer, u32> {
         let (i, mut a) = (&self.image, Answer::default());
         accepted(unsafe {
-            edge::rondo_query_auto(i.as_ptr(), i.len(), self.flags, 0, column, start, end, &mut a)
+            rondo::rondo_query_auto(i.as_ptr(), i.len(), self.flags, 0, column, start, end, &mut a)
         })?;
         Ok(a)
     }
@@ -117,7 +117,7 @@ impl Store {
     fn next(&self, a: &mut Answer) -> Option<(u64, f64)> {
         let slab = &self.image[a.from as usize..a.to as usize];
         let (p, len, mut point) = (slab.as_ptr(), slab.len(), [0; 2]);
-        let more = unsafe { edge::rondo_next(p, len, a.column as u32, a.start, a.end, &mut a.place, &mut point) };
+        let more = unsafe { rondo::rondo_next(p, len, a.column as u32, a.start, a.end, &mut a.place, &mut point) };
         (more != 0).then(|| (point[0], f64::from_bits(point[1])))
     }
 
@@ -126,7 +126,7 @@ impl Store {
         let slab = &self.image[a.from as usize..a.to as usize];
         let (p, len, words) = (slab.as_ptr(), slab.len(), points.as_flattened_mut());
         let (w, n) = (words.as_mut_ptr(), words.len());
-        unsafe { edge::rondo_read(p, len, a.column as u32, a.start, a.end, &mut a.place, w, n) }
+        unsafe { rondo::rondo_read(p, len, a.column as u32, a.start, a.end, &mut a.place, w, n) }
     }
 }
 

@@ -1,4 +1,4 @@
-//! One driver for both sides: the proved library through libedge.a, and the published Rust with request 2026-01's line
+//! One driver for both sides: the proved library through librondo.a, and the published Rust with request 2026-01's line
 //! altered. Times are the thread's processor time, so that a busy machine tells less.
 //!
 //!   bench                         every measure, a Markdown row each: median, least and greatest of the repetitions, ratio

@@ -1,4 +1,4 @@
-//! The proved library, through libedge.a.
+//! The proved library, through librondo.a.
 use std::hint::black_box;
 
 use crate::calls::{Plan, Side};

@@ -20,8 +20,8 @@
  * header. So the fast ways are those that do much in a call: a batch for the values of one stamp
  * (rondo_record_batch), and many points a call (rondo_read).
  *
- * Link libedge.a (x86-64 Linux). Each function here has the contract that is proved of it in
- * crates/edge/src/lib.rt.
+ * Link librondo.a (x86-64 Linux). Each function here has the contract that is proved of it in
+ * crates/rondo/src/lib.rt.
  */
 #ifndef RONDO_H
 #define RONDO_H

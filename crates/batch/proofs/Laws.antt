@@ -15,12 +15,12 @@ use Rattle.model.specs.Ring.{ColumnValue, write}
 use Rattle.model.specs.Lent.{Lent, ring, withRing, rowNo, firstRow}
 use Rattle.model.specs.Record.{Entry, seriesOf, stampOk, writeTo, entriesFrom, entries, everyEntry, keepEntry, entriesOf, writeSome, writeSchemas, batchCheck, batchOn}
 use Rattle.laws.specs.Tests.{lt-is, eq-is, and-left, and-right}
-use Rattle.frame.specs.Good.{Good, good-open, open-good}
-use Rattle.frame.specs.Frame.{length-write, good-write, schemas-with, rows-with}
-use Rattle.frame.specs.Stays.{finest}
-use Rattle.write.specs.Stored.{Columns}
-use Rattle.lent.specs.Handle.{series-there}
-use Rattle.entries.specs.Entries.{fits, finite, isSome, fits-are, finites-are}
+use Rattle.image_theory.specs.Good.{Good, good-open, open-good}
+use Rattle.image_theory.specs.Frame.{length-write, good-write, schemas-with, rows-with}
+use Rattle.image_theory.specs.Stays.{finest}
+use Rattle.ring_write.specs.Stored.{Columns}
+use Rattle.lookup.specs.Handle.{series-there}
+use Rattle.batch_entries.specs.Entries.{fits, finite, isSome, fits-are, finites-are}
 use Rattle.batch.specs.Done.{BatchDone}
 
 -- ---- the columns of schema k's entries are below its max series

@@ -6,9 +6,9 @@ ghost use Prim.Native.Nat.{_<_};
 ghost use Rattle.model.specs.Words.{outcomeNo};
 ghost use Rattle.model.specs.Image.{schemas, openCheck};
 ghost use Rattle.model.specs.Record.{entries, entriesOf, everyEntry, writeTo, writeSchemas};
-ghost use Rattle.lent.specs.Parts.{lentOf};
-ghost use Rattle.bits.specs.One.{lentAt};
-ghost use Rattle.entries.specs.Entries.{fits};
+ghost use Rattle.lookup.specs.Parts.{lentOf};
+ghost use Rattle.flag_bits.specs.One.{lentAt};
+ghost use Rattle.batch_entries.specs.Entries.{fits};
 ghost use Rattle.batch.specs.Done.{BatchDone};
 
 // Writes a schema's entries to its finest ring. Answers the flags.
@@ -17,14 +17,14 @@ fn store_schema(image: &mut [u8], flags: u32, schema: u64, batch: &[u8], stamp: 
     requires { ⌜ (schema < schemas (now image)) × (everyEntry (fits (now image)) (entries (now batch)) ≡ true) ⌝ }
     ensures { λ r. ⌜ lentAt (now (image .exit)) r ≡ writeTo (lentAt (now (image .entry)) flags) schema (entriesOf schema (entries (now (batch .entry)))) stamp ⌝ }
 {
-    let row = lent::first_row(image, schema);
-    let slab = lent::slab_at(image, row);
+    let row = lookup::first_row(image, schema);
+    let slab = lookup::slab_at(image, row);
     let from = slab.from;
     let to = slab.to;
     let z = slab.sizes;
-    let wrapped = bits::flag_at(flags, row);
-    let after = write::write_batch(&mut image[from..to], z, batch, schema, stamp, wrapped);
-    bits::with_flag(flags, row, after)
+    let wrapped = flag_bits::flag_at(flags, row);
+    let after = ring_write::write_batch(&mut image[from..to], z, batch, schema, stamp, wrapped);
+    flag_bits::with_flag(flags, row, after)
 }
 
 // Writes every schema's entries, schema by schema. Answers the flags.
@@ -37,7 +37,7 @@ fn store_schemas(image: &mut [u8], flags: u32, batch: &[u8], stamp: u64) -> u32
     let mut next = flags;
     let mut k = 0;
     while k < count {
-        let some = entries::has_entry(batch, k);
+        let some = batch_entries::has_entry(batch, k);
         if some {
             next = store_schema(image, next, k, batch, stamp);
             k += 1;
@@ -49,51 +49,51 @@ fn store_schemas(image: &mut [u8], flags: u32, batch: &[u8], stamp: u64) -> u32
 }
 
 // Records a batch, once opening's check has passed: nothing for an empty one, else 11, 13, 12, or the writes.
-pub fn batch_opened(image: &mut [u8], flags: u32, batch: &[u8], stamp: u64) -> bits::Numbered
+pub fn batch_opened(image: &mut [u8], flags: u32, batch: &[u8], stamp: u64) -> flag_bits::Numbered
     requires { ⌜ openCheck (now image) ≡ 0 ⌝ }
     ensures { λ r. ⌜ BatchDone (lentAt (now (image .entry)) flags) (entries (now (batch .entry))) stamp (outcomeNo (r .outcome)) (lentAt (now (image .exit)) (r .flags)) ⌝ }
 {
     if batch.len() < format::ENTRY {
-        return bits::Numbered {
+        return flag_bits::Numbered {
             outcome: model::Outcome::Accepted,
             flags: flags,
         };
     }
-    let outside = entries::any_outside(image, batch);
+    let outside = batch_entries::any_outside(image, batch);
     if outside {
-        return bits::Numbered {
+        return flag_bits::Numbered {
             outcome: model::Outcome::Refused(model::Refusal::InvalidHandle),
             flags: flags,
         };
     }
     let good = field::is_good_stamp(stamp);
-    let infinite = entries::any_infinite(batch);
+    let infinite = batch_entries::any_infinite(batch);
     if !good {
-        return bits::Numbered {
+        return flag_bits::Numbered {
             outcome: model::Outcome::Refused(model::Refusal::InvalidTimestamp),
             flags: flags,
         };
     }
     if infinite {
-        return bits::Numbered {
+        return flag_bits::Numbered {
             outcome: model::Outcome::Refused(model::Refusal::InvalidValue),
             flags: flags,
         };
     }
     let next = store_schemas(image, flags, batch, stamp);
-    bits::Numbered {
+    flag_bits::Numbered {
         outcome: model::Outcome::Accepted,
         flags: next,
     }
 }
 
 // Records a batch, with the flags as a number.
-fn record_numbered(image: &mut [u8], flags: u32, batch: &[u8], stamp: u64) -> bits::Numbered
+fn record_numbered(image: &mut [u8], flags: u32, batch: &[u8], stamp: u64) -> flag_bits::Numbered
     ensures { λ r. ⌜ BatchDone (lentAt (now (image .entry)) flags) (entries (now (batch .entry))) stamp (outcomeNo (r .outcome)) (lentAt (now (image .exit)) (r .flags)) ⌝ }
 {
-    let opened = checked::check_image(image);
+    let opened = image_checked::check_image(image);
     let model::Outcome::Accepted = opened else {
-        return bits::Numbered {
+        return flag_bits::Numbered {
             outcome: opened,
             flags: flags,
         };
@@ -110,9 +110,9 @@ pub fn record_batch(
 ) -> record::Recorded
     ensures { λ r. ⌜ BatchDone (lentOf (now (image .entry)) flags) (entries (now (batch .entry))) stamp (outcomeNo (r .outcome)) (lentOf (now (image .exit)) (r .flags)) ⌝ }
 {
-    let number = bits::number_of(flags);
+    let number = flag_bits::number_of(flags);
     let done = record_numbered(image, number, batch, stamp);
-    let next = bits::flags_of(done.flags);
+    let next = flag_bits::flags_of(done.flags);
     let outcome = done.outcome;
     record::Recorded {
         outcome: outcome,

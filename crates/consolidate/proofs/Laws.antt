@@ -19,10 +19,10 @@ use Rattle.model.specs.Image.{rowCount, rowPlace, rowAt, openCheck}
 use Rattle.model.specs.Lent.{row}
 use Rattle.model.specs.Consolidate.{Run, pair, pairIf, pairs, runOn, run}
 use Rattle.model.specs.Store.{Reply, call, consolidateCall, finished, wroteOr, refused, consolidatedReply}
-use Rattle.frame.specs.Good.{good-open, open-good, count-kept}
-use Rattle.frame.specs.Pairs.{stays-pair}
+use Rattle.image_theory.specs.Good.{good-open, open-good, count-kept}
+use Rattle.image_theory.specs.Pairs.{stays-pair}
 use Rattle.rows.specs.First.{refusal-no}
-use Rattle.lent.specs.Parts.{lentOf}
+use Rattle.lookup.specs.Parts.{lentOf}
 use Rattle.pair.specs.declared.Progress.{Progress}
 use Rattle.pair.specs.Parts.{runOf}
 use Rattle.consolidate.specs.Parts.{fresh}

@@ -4,7 +4,7 @@ use mathlib.Core.List.{List}
 use Rattle.model.specs.declared.Flags.{Flags}
 use Rattle.model.specs.Consolidate.{Run}
 use Rattle.model.specs.Store.{Done, consolidatedReply}
-use Rattle.lent.specs.Parts.{lentOf}
+use Rattle.lookup.specs.Parts.{lentOf}
 use Rattle.consolidate.specs.declared.Consolidation.{Consolidation}
 
 abbrev pub fresh : List ℕ → Flags → Run

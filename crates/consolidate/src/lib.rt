@@ -7,7 +7,7 @@ ghost use Rattle.model.specs.Words.{outcomeNo};
 ghost use Rattle.model.specs.Image.{rowCount, rowAt, openCheck};
 ghost use Rattle.model.specs.Consolidate.{pairs};
 ghost use Rattle.model.specs.Store.{call, consolidateCall, wroteOr, consolidatedReply};
-ghost use Rattle.lent.specs.Parts.{lentOf};
+ghost use Rattle.lookup.specs.Parts.{lentOf};
 ghost use Rattle.pair.specs.Parts.{runOf};
 ghost use Rattle.consolidate.specs.Parts.{fresh, runDone};
 
@@ -70,7 +70,7 @@ fn answer_of(outcome: model::Outcome, count: u64) -> model::Consolidated
 pub fn consolidate(image: &mut [u8], flags: model::Flags) -> Consolidation
     ensures { λ r. ⌜ runDone (now (image .exit)) r ≡ call (lentOf (now (image .entry)) flags) consolidateCall ⌝ }
 {
-    let opened = checked::check_image(image);
+    let opened = image_checked::check_image(image);
     let model::Outcome::Accepted = opened else {
         let answer = answer_of(opened, 0);
         return Consolidation {

@@ -51,7 +51,7 @@ pub fn create(plan: &[u8], image: &mut [u8], flags: model::Flags) -> Created
     let n = field::get_u32(plan, format::HEADER_ROWS) as usize;
     let wrapped = flags.wrapped;
     let next = cleared(wrapped, n);
-    build::put_image(plan, image);
+    image_build::put_image(plan, image);
     Created {
         outcome: model::Outcome::Accepted,
         flags: next,

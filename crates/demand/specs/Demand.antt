@@ -1,5 +1,5 @@
 -- The third demand as requests 2026-01 and 2026-02 restate it: the words of document 01's "Words of the third demand" and of the requests, each with its definition,
--- and the claim about lists of calls, openings among them. Its proof stands in the crate fidelity. Assumes nothing.
+-- and the claim about lists of calls, openings among them. Its proof stands in the crate demand_proved. Assumes nothing.
 use Prim.Native.Nat.{ℕ, zero, suc, _+_, _-_, _*_, _/_, _%_, _^_, _<_, min}
 use mathlib.Core.Path.{_≡_}
 use mathlib.Core.Bool.{Bool, true, false, not, _&&_, _||_, cond}

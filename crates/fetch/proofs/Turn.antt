@@ -13,7 +13,7 @@ use Rattle.model.specs.declared.Stepped.{Stepped}
 use Rattle.model.specs.declared.Next.{Next}
 use Rattle.model.specs.declared.Next.the-variants.{Handed, Finished}
 use Rattle.model.specs.Read.{readable, stepFrom, step, stepped}
-use Rattle.rings.specs.Points.{step-place}
+use Rattle.ring_theory.specs.Points.{step-place}
 use Rattle.fetch.specs.Fetch.{Fetch, thenFetch, fetchUpTo, words}
 
 module _ (s : List ℕ) (c start end : ℕ) where

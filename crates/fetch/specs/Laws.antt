@@ -9,7 +9,7 @@ use Rattle.model.specs.declared.Point.{Point}
 use Rattle.model.specs.declared.Next.{Next}
 use Rattle.model.specs.declared.Next.the-variants.{Handed, Finished}
 use Rattle.model.specs.Read.{Reader, readable, step, stepped, andThen, pointsOf}
-use Rattle.rings.specs.Points.{points-step, points-unreadable}
+use Rattle.ring_theory.specs.Points.{points-step, points-unreadable}
 use Rattle.fetch.specs.Fetch.{Fetch, thenFetch, fetchUpTo}
 
 module _ (s : List ℕ) (c start end : ℕ) where

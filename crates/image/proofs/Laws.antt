@@ -9,7 +9,7 @@ use lib.ListN.{length, take, drop}
 use Rattle.model.specs.declared.Row.{Row}
 use Rattle.laws.specs.Bytes.{length-part}
 use Rattle.model.specs.Image.{rowsFrom, rowAt, rowLength, rowSlots, slabsEnd, placed, slabOf, sound, soundAll}
-use Rattle.frame.specs.Rows.{placed-at, slabsEnd-suc, slabsEnd-le}
+use Rattle.image_theory.specs.Rows.{placed-at, slabsEnd-suc, slabsEnd-le}
 use Rattle.rows.specs.Tests.{and-assoc, and-true}
 use Rattle.rows.specs.Rows.{rowsTo, rows-step, rows-end}
 use Rattle.layout.specs.Ends.{long}

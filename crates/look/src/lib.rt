@@ -138,7 +138,7 @@ fn put_mark(mark: u64, wrapped: bool) {
 // The flag of row i.
 fn flag_of(flags: model::Flags, i: usize) -> bool {
     if i < 32 {
-        return lent::flag(flags, i);
+        return lookup::flag(flags, i);
     }
     false
 }

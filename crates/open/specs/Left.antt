@@ -14,8 +14,8 @@ use Rattle.model.specs.Image.{rowAt, rowsFrom, rowCount, rowSlots, rowPlace, op
 use Rattle.model.specs.Ring.{cursor, anyStamp, wrapFlag}
 use Rattle.model.specs.Lent.{Lent, wrapFlags, openOn, opening}
 use Rattle.ring.specs.Parts.{Sized, sized}
-use Rattle.frame.specs.Rows.{length-rowsFrom}
-use Rattle.frame.specs.Good.{Good, good-open, slab-sound, inside-slice}
+use Rattle.image_theory.specs.Rows.{length-rowsFrom}
+use Rattle.image_theory.specs.Good.{Good, good-open, slab-sound, inside-slice}
 use Rattle.rows.specs.Rows.{rowsTo, rows-all, rows-step, rows-end}
 use Rattle.image.specs.Handed.{handed as slab-is}
 use Rattle.image.specs.Flags.{front}

@@ -46,7 +46,7 @@ fn any_stamp(slab: &[u8], n: usize, m: usize, first: usize, count: usize) -> boo
     let mut slot = first;
     let mut left = count;
     while 8 <= left {
-        let eight = joined::eight(slab, n, m, slot);
+        let eight = ring_joined::eight(slab, n, m, slot);
         if eight != 0 {
             return true;
         }
@@ -89,7 +89,7 @@ fn flags_of(s: &[u8], n: usize, wrapped: [bool; 32]) -> model::Flags
 pub fn open(image: &[u8], flags: model::Flags) -> Opened
     ensures { λ r. ⌜ (outcomeNo (r .outcome) ≡ openCheck (now (image .entry))) × (lent (now (image .entry)) (r .flags) ≡ opening (lent (now (image .entry)) flags)) ⌝ }
 {
-    let checked = checked::check_image(image);
+    let checked = image_checked::check_image(image);
     let model::Outcome::Accepted = checked else {
         return Opened {
             outcome: checked,

@@ -26,10 +26,10 @@ use Rattle.model.specs.Window.{Job}
 use Rattle.model.specs.Lent.{Lent, row, ring, withRing}
 use Rattle.model.specs.Consolidate.{Filled, Run, orZero, endAfter, windows, fill, filled, withMark, closePair, refuseRun, stampsBelow, pairWith, pairBy, pair}
 use Rattle.model.specs.Consolidate as C
-use Rattle.lent.specs.Parts.{lentOf, withFlag}
-use Rattle.answers.specs.declared.Filling.{Filling}
-use Rattle.fill.specs.declared.Pair.{Pair}
-use Rattle.fill.specs.Parts.{pairJob, filledIn, Keeps}
+use Rattle.lookup.specs.Parts.{lentOf, withFlag}
+use Rattle.window_write.specs.declared.Filling.{Filling}
+use Rattle.pair_fill.specs.declared.Pair.{Pair}
+use Rattle.pair_fill.specs.Parts.{pairJob, filledIn, Keeps}
 use Rattle.pair.specs.declared.Progress.{Progress}
 use Rattle.pair.specs.Parts.{runOf, PairAt, markedIf}
 

@@ -16,13 +16,13 @@ use Rattle.model.specs.Ring.{slots}
 use Rattle.model.specs.Lent.{row, ring}
 use Rattle.model.specs.Consolidate.{stampsBelow}
 use Rattle.model.specs.Consolidate as C
-use Rattle.frame.specs.Checks.{NextTier, NextSchema, follows-parts, layout-parts}
-use Rattle.frame.specs.Good.{Good, good-open, inside, slabs-apart}
+use Rattle.image_theory.specs.Checks.{NextTier, NextSchema, follows-parts, layout-parts}
+use Rattle.image_theory.specs.Good.{Good, good-open, inside, slabs-apart}
 use Rattle.ring.specs.Parts.{sized}
-use Rattle.lent.specs.declared.Slab.{Slab}
-use Rattle.lent.specs.Parts.{SlabAt}
+use Rattle.lookup.specs.declared.Slab.{Slab}
+use Rattle.lookup.specs.Parts.{SlabAt}
 use Rattle.window.specs.declared.Reading.{Reading}
-use Rattle.source.specs.Parts.{readingOf}
+use Rattle.pair_source.specs.Parts.{readingOf}
 use Rattle.pair.specs.Parts.{Adjacent, PairAt}
 
 abbrev pub RowSlab : List ℕ → ℕ → Slab → Type 0

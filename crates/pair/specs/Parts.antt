@@ -10,9 +10,9 @@ use Rattle.model.specs.Bytes.{put64}
 use Rattle.model.specs.Image.{rowCount, rowAt, markAt, openCheck, slabOf}
 use Rattle.model.specs.Consolidate.{Run}
 use Rattle.model.specs.Consolidate as C
-use Rattle.lent.specs.Parts.{lentOf}
-use Rattle.fill.specs.declared.Pair.{Pair}
-use Rattle.fill.specs.Parts.{Lies, destIn, pairJob}
+use Rattle.lookup.specs.Parts.{lentOf}
+use Rattle.pair_fill.specs.declared.Pair.{Pair}
+use Rattle.pair_fill.specs.Parts.{Lies, destIn, pairJob}
 use Rattle.pair.specs.declared.Progress.{Progress}
 
 abbrev pub runOf : List ℕ → Progress → Run

@@ -19,21 +19,21 @@ pub struct Progress {
 }
 
 // The pair of a row and the next, whose stamps are all good.
-fn pair_at(image: &[u8], flags: model::Flags, row: usize, f: model::ConsolidationFn) -> fill::Pair
+fn pair_at(image: &[u8], flags: model::Flags, row: usize, f: model::ConsolidationFn) -> pair_fill::Pair
     requires { ⌜ Adjacent (now image) row ⌝ }
     requires { ⌜ stampsBelow (slabOf (now image) (rowAt (now image) row)) 0 (slots (slabOf (now image) (rowAt (now image) row))) ≡ true ⌝ }
     ensures { λ r. ⌜ PairAt (now (image .entry)) flags row f r ⌝ }
 {
-    let d = lent::slab_at(image, row);
-    let next = lent::slab_at(image, row + 1);
+    let d = lookup::slab_at(image, row);
+    let next = lookup::slab_at(image, row + 1);
     let r = rows::row_at(image, row);
-    let wrapped = lent::flag(flags, row);
+    let wrapped = lookup::flag(flags, row);
     let from = d.from;
     let to = d.to;
     let z = d.sizes;
     let coarse = next.sizes;
-    let reading = source::reading_of(&image[from..to], z, wrapped, r.mark, f, coarse.interval);
-    fill::Pair {
+    let reading = pair_source::reading_of(&image[from..to], z, wrapped, r.mark, f, coarse.interval);
+    pair_fill::Pair {
         from: from,
         to: to,
         reading: reading,
@@ -79,15 +79,15 @@ fn fill_pair(image: &mut [u8], u: Progress, row: usize, f: model::ConsolidationF
     let p = pair_at(image, flags, row, f);
     let q = p.reading;
     let stamp = before(q.end);
-    let wrapped = lent::flag(flags, row + 1);
-    let filling = answers::Filling {
+    let wrapped = lookup::flag(flags, row + 1);
+    let filling = window_write::Filling {
         wrapped: wrapped,
         writes: 0,
         outcome: model::Outcome::Accepted,
     };
-    let passed = inorder::fill_pair(image, p, filling);
+    let passed = pair_runs::fill_pair(image, p, filling);
     let done = passed.filling;
-    let after = lent::with_flag(flags, row + 1, done.wrapped);
+    let after = lookup::with_flag(flags, row + 1, done.wrapped);
     let outcome = done.outcome;
     move_mark(image, row, stamp, done.writes, outcome);
     Progress {
@@ -105,7 +105,7 @@ pub fn pair(image: &mut [u8], u: Progress, row: usize) -> Progress
 {
     let flags = u.flags;
     let next = rows::row_at(image, row + 1);
-    let function = source::function_of(next.function);
+    let function = pair_source::function_of(next.function);
     let model::TierFn::Some(f) = function else {
         return Progress {
             flags: flags,
@@ -113,11 +113,11 @@ pub fn pair(image: &mut [u8], u: Progress, row: usize) -> Progress
             outcome: model::Outcome::Refused(model::Refusal::NoConsolidationFunction),
         };
     };
-    let d = lent::slab_at(image, row);
+    let d = lookup::slab_at(image, row);
     let from = d.from;
     let to = d.to;
     let z = d.sizes;
-    let good = source::stamps_below(&image[from..to], z.slots, z.series);
+    let good = pair_source::stamps_below(&image[from..to], z.slots, z.series);
     if !good {
         return Progress {
             flags: flags,

@@ -15,15 +15,15 @@ use Rattle.model.specs.Lent.{Lent, tiers, firstRow, rowNo}
 use Rattle.model.specs.Record.{handleOk}
 use Rattle.model.specs.Query.{QueryReply, found, notFound, queryCheck, autoCheck, choose, answered, queryOn, query, queryAuto, repliedBy}
 use Rattle.laws.specs.Tests.{yes-lt, no-lt}
-use Rattle.frame.specs.Good.{good-open}
-use Rattle.frame.specs.Tiers.{some-tier}
+use Rattle.image_theory.specs.Good.{good-open}
+use Rattle.image_theory.specs.Tiers.{some-tier}
 use Rattle.rows.specs.First.{first-stop, refusal-no}
-use Rattle.lent.specs.Parts.{finestOf}
-use Rattle.lent.specs.declared.Finest.the-variants.{At, Missing}
-use Rattle.lent.specs.Handle.{handle-none, handle-at, handle-in, row-there}
-use Rattle.lent.proofs.Laws.{few-rows}
-use Rattle.cover.specs.Reached.{lentBy}
-use Rattle.cover.proofs.Laws.{tier-there}
+use Rattle.lookup.specs.Parts.{finestOf}
+use Rattle.lookup.specs.declared.Finest.the-variants.{At, Missing}
+use Rattle.lookup.specs.Handle.{handle-none, handle-at, handle-in, row-there}
+use Rattle.lookup.proofs.Laws.{few-rows}
+use Rattle.tiers.specs.Reached.{lentBy}
+use Rattle.tiers.proofs.Laws.{tier-there}
 use Rattle.query.specs.Sought.{SoughtAt}
 
 module _ (s : List ℕ) (bs : List Bool) (k c start end : ℕ) where

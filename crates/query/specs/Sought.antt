@@ -7,7 +7,7 @@ use Rattle.model.specs.declared.Refusal.{Refusal}
 use Rattle.model.specs.declared.Queried.the-variants as Q
 use Rattle.model.specs.Image.{rowCount}
 use Rattle.model.specs.Query.{query, answered, found, repliedBy}
-use Rattle.cover.specs.Reached.{lentBy}
+use Rattle.tiers.specs.Reached.{lentBy}
 use Rattle.query.specs.declared.Sought.{Sought}
 use Rattle.query.specs.declared.Sought.the-variants as S
 

@@ -4,8 +4,8 @@
 ghost use mathlib.Core.Path.{_≡_};
 ghost use Rattle.model.specs.Image.{openCheck};
 ghost use Rattle.model.specs.Query.{query, queryAuto, repliedBy};
-ghost use Rattle.lent.specs.Parts.{lentOf};
-ghost use Rattle.bits.specs.One.{lentAt};
+ghost use Rattle.lookup.specs.Parts.{lentOf};
+ghost use Rattle.flag_bits.specs.One.{lentAt};
 ghost use Rattle.query.specs.Sought.{SoughtIs};
 
 // The row that a query reads. Or why it is refused.
@@ -20,10 +20,10 @@ fn seek(image: &[u8], handle: model::SeriesHandle, tier: u32, start: u64, end: u
     ensures { λ r. ⌜ SoughtIs (now (image .entry)) (handle .schema) (handle .column) tier start end r ⌝ }
 {
     let schema = handle.schema as u64;
-    let lent::Finest::At(first) = lent::finest_row(image, schema, handle.column as u64) else {
+    let lookup::Finest::At(first) = lookup::finest_row(image, schema, handle.column as u64) else {
         return Sought::Refused(model::Refusal::InvalidHandle);
     };
-    let there = cover::has_tier(image, schema, first, tier as usize);
+    let there = tiers::has_tier(image, schema, first, tier as usize);
     if !there {
         return Sought::Refused(model::Refusal::InvalidTier);
     }
@@ -49,8 +49,8 @@ fn query_opened(
     let target = seek(image, handle, tier, start, end);
     match target {
         Sought::Row(row) => {
-            let wrapped = lent::flag(flags, row);
-            let found = cover::answer(image, row, wrapped, handle.column, tier, start, end);
+            let wrapped = lookup::flag(flags, row);
+            let found = tiers::answer(image, row, wrapped, handle.column, tier, start, end);
             model::Queried::Answer(found)
         }
         Sought::Refused(r) => model::Queried::Refused(r),
@@ -72,8 +72,8 @@ pub fn query_numbered(
     let target = seek(image, handle, tier, start, end);
     match target {
         Sought::Row(row) => {
-            let wrapped = bits::flag_at(flags, row);
-            let found = cover::answer(image, row, wrapped, handle.column, tier, start, end);
+            let wrapped = flag_bits::flag_at(flags, row);
+            let found = tiers::answer(image, row, wrapped, handle.column, tier, start, end);
             model::Queried::Answer(found)
         }
         Sought::Refused(r) => model::Queried::Refused(r),
@@ -93,16 +93,16 @@ pub fn auto_numbered(
 {
     let schema = handle.schema as u64;
     let column = handle.column;
-    let lent::Finest::At(first) = lent::finest_row(image, schema, column as u64) else {
+    let lookup::Finest::At(first) = lookup::finest_row(image, schema, column as u64) else {
         return model::Queried::Refused(model::Refusal::InvalidHandle);
     };
     if start >= end {
         return model::Queried::Refused(model::Refusal::InvalidTimeRange);
     }
-    let chosen = cover::choose(image, flags, schema, first, start, end);
+    let chosen = tiers::choose(image, flags, schema, first, start, end);
     let tier = chosen.tier as u32;
     let reach = chosen.reach;
-    let found = cover::answer_of(reach, column, tier, start, end);
+    let found = tiers::answer_of(reach, column, tier, start, end);
     model::Queried::Answer(found)
 }
 
@@ -117,7 +117,7 @@ pub fn query(
 ) -> model::Queried
     ensures { λ r. ⌜ repliedBy (now (image .entry)) r ≡ query (lentOf (now (image .entry)) flags) (handle .schema) (handle .column) tier start end ⌝ }
 {
-    let opened = checked::check_image(image);
+    let opened = image_checked::check_image(image);
     if let model::Outcome::Refused(why) = opened {
         return model::Queried::Refused(why);
     }
@@ -134,10 +134,10 @@ pub fn query_auto(
 ) -> model::Queried
     ensures { λ r. ⌜ repliedBy (now (image .entry)) r ≡ queryAuto (lentOf (now (image .entry)) flags) (handle .schema) (handle .column) start end ⌝ }
 {
-    let opened = checked::check_image(image);
+    let opened = image_checked::check_image(image);
     if let model::Outcome::Refused(why) = opened {
         return model::Queried::Refused(why);
     }
-    let number = bits::number_of(flags);
+    let number = flag_bits::number_of(flags);
     auto_numbered(image, number, handle, start, end)
 }

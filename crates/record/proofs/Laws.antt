@@ -12,12 +12,12 @@ use Rattle.model.specs.Ring.{Ring, ColumnValue, flagAfter, store, write, isInfi
 use Rattle.model.specs.Lent.{row, ring, withRing}
 use Rattle.model.specs.Record.{stampOk, recordCheck}
 use Rattle.laws.specs.Bytes.{lent-splice}
-use Rattle.rings.specs.Sound.{Sound}
+use Rattle.ring_theory.specs.Sound.{Sound}
 use Rattle.ring.specs.Parts.{ringOf}
-use Rattle.lent.specs.Parts.{SlabAt, finestOf}
-use Rattle.lent.specs.declared.Finest.the-variants.{At, Missing}
-use Rattle.lent.specs.Handle.{handle-none, handle-at, row-there}
-use Rattle.lent.proofs.Laws.{few-rows}
+use Rattle.lookup.specs.Parts.{SlabAt, finestOf}
+use Rattle.lookup.specs.declared.Finest.the-variants.{At, Missing}
+use Rattle.lookup.specs.Handle.{handle-none, handle-at, row-there}
+use Rattle.lookup.proofs.Laws.{few-rows}
 use Rattle.record.specs.Ready.{lentBy, ReadyAt, RowWritten}
 
 -- ---- the stamp

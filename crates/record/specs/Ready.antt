@@ -14,12 +14,12 @@ use Rattle.model.specs.Image.{first, openCheck}
 use Rattle.model.specs.Ring.{ColumnValue, write}
 use Rattle.model.specs.Lent.{Lent, row, ring, withRing, rowNo}
 use Rattle.model.specs.Record.{recordCheck, recordOn, writeTo}
-use Rattle.rings.specs.Write.{write-is, flag-is}
+use Rattle.ring_theory.specs.Write.{write-is, flag-is}
 use Rattle.rows.specs.First.{refusal-no}
 use Rattle.ring.specs.Parts.{one}
-use Rattle.lent.specs.Parts.{finestOf}
-use Rattle.lent.specs.declared.Finest.the-variants.{At}
-use Rattle.lent.specs.Handle.{handle-at}
+use Rattle.lookup.specs.Parts.{finestOf}
+use Rattle.lookup.specs.declared.Finest.the-variants.{At}
+use Rattle.lookup.specs.Handle.{handle-at}
 use Rattle.record.specs.declared.Target.{Target}
 use Rattle.record.specs.declared.Target.the-variants as R
 use Rattle.record.specs.Done.{RecordDone}

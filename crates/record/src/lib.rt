@@ -6,8 +6,8 @@ ghost use Prim.Native.Nat.{_<_};
 ghost use Rattle.model.specs.Words.{outcomeNo};
 ghost use Rattle.model.specs.Image.{rowCount, rowAt, openCheck};
 ghost use Rattle.ring.specs.Parts.{one};
-ghost use Rattle.lent.specs.Parts.{lentOf};
-ghost use Rattle.bits.specs.One.{lentAt};
+ghost use Rattle.lookup.specs.Parts.{lentOf};
+ghost use Rattle.flag_bits.specs.One.{lentAt};
 ghost use Rattle.record.specs.Done.{RecordDone};
 ghost use Rattle.record.specs.Ready.{Readied, RowWritten};
 
@@ -30,11 +30,11 @@ pub fn store(
     requires { ⌜ (row < rowCount (now image)) × (column < rowAt (now image) row .series) ⌝ }
     ensures { λ r. ⌜ RowWritten (now (image .entry)) (now (image .exit)) row (one column value) stamp wrapped r ⌝ }
 {
-    let slab = lent::slab_at(image, row);
+    let slab = lookup::slab_at(image, row);
     let from = slab.from;
     let to = slab.to;
     let z = slab.sizes;
-    write::write(&mut image[from..to], z, column, value, stamp, wrapped)
+    ring_write::write(&mut image[from..to], z, column, value, stamp, wrapped)
 }
 
 // Where a value goes: the row of its ring. Or why it is refused.
@@ -48,8 +48,8 @@ pub fn ready_opened(image: &[u8], handle: model::SeriesHandle, value: u64, stamp
     requires { ⌜ openCheck (now image) ≡ 0 ⌝ }
     ensures { λ r. ⌜ Readied (now (image .entry)) (handle .schema) (handle .column) value stamp r ⌝ }
 {
-    let found = lent::finest_row(image, handle.schema as u64, handle.column as u64);
-    let lent::Finest::At(row) = found else {
+    let found = lookup::finest_row(image, handle.schema as u64, handle.column as u64);
+    let lookup::Finest::At(row) = found else {
         return Target::Refused(model::Refusal::InvalidHandle);
     };
     let infinite = field::is_infinite(value);
@@ -67,7 +67,7 @@ pub fn ready_opened(image: &[u8], handle: model::SeriesHandle, value: u64, stamp
 pub fn ready(image: &[u8], handle: model::SeriesHandle, value: u64, stamp: u64) -> Target
     ensures { λ r. ⌜ Readied (now (image .entry)) (handle .schema) (handle .column) value stamp r ⌝ }
 {
-    let opened = checked::check_image(image);
+    let opened = image_checked::check_image(image);
     match opened {
         model::Outcome::Accepted => ready_opened(image, handle, value, stamp),
         model::Outcome::Refused(r) => Target::Refused(r),
@@ -87,9 +87,9 @@ pub fn record(
     let found = ready(image, handle, value, stamp);
     match found {
         Target::Row(row) => {
-            let wrapped = lent::flag(flags, row);
+            let wrapped = lookup::flag(flags, row);
             let after = store(image, row, handle.column as usize, value, stamp, wrapped);
-            let next = lent::with_flag(flags, row, after);
+            let next = lookup::with_flag(flags, row, after);
             Recorded {
                 outcome: model::Outcome::Accepted,
                 flags: next,
@@ -119,7 +119,7 @@ pub fn record_opened(
         Target::Row(row) => {
             let lower = store(image, row, handle.column as usize, value, stamp, false);
             if lower {
-                *flags = bits::with_flag(*flags, row, true);
+                *flags = flag_bits::with_flag(*flags, row, true);
             }
             0
         }

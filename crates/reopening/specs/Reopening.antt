@@ -1,5 +1,5 @@
 -- Request 2026-02, history after a power cycle: an opening changes nothing of what a caller sees. The claim, for every history; and the request's own words,
--- which ask it of stores written in time order with no interval skipped. The proofs of both stand in the crate reopened. Assumes nothing.
+-- which ask it of stores written in time order with no interval skipped. The proofs of both stand in the crate reopening_proved. Assumes nothing.
 use Prim.Native.Nat.{ℕ, suc, _/_, _<_}
 use mathlib.Core.Path.{_≡_}
 use mathlib.Core.Bool.{Bool, true, false, _&&_, _||_, cond}

@@ -76,7 +76,7 @@ fn is_image_unlike(item: &[u8], image: &[u8]) -> bool {
 
 // The image's bytes or the flags are not those that the item says.
 pub fn is_unlike(item: &[u8], image: &[u8], flags: model::Flags) -> bool {
-    let number = bits::number_of(flags);
+    let number = flag_bits::number_of(flags);
     let stored = word(item, 40);
     if number as u64 != stored {
         return true;

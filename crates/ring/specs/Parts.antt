@@ -4,7 +4,7 @@ use mathlib.Core.Path.{refl}
 use mathlib.Core.Bool.{Bool}
 use mathlib.Core.List.{List, [], _∷_}
 use Rattle.model.specs.Ring.{Ring, ColumnValue, interval}
-use Rattle.rings.specs.Sound.{Sound}
+use Rattle.ring_theory.specs.Sound.{Sound}
 
 -- in good order, whatever its interval
 abbrev pub Sized : List ℕ → ℕ → ℕ → Type 0

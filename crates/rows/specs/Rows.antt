@@ -11,7 +11,7 @@ use lib.Dec.{leb}
 use Rattle.model.specs.declared.Row.{Row}
 use Rattle.model.specs.Bytes.{get}
 use Rattle.model.specs.Image.{rowAt, rowsFrom, rows, rowCount, schemas, rowPlace, every, orderly, rowShape, header, shape}
-use Rattle.frame.specs.Checks.{shape-parts}
+use Rattle.image_theory.specs.Checks.{shape-parts}
 use Rattle.rows.specs.Tests.{and-assoc}
 
 -- the rows of s from row i on, below row n

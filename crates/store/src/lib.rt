@@ -6,7 +6,7 @@ ghost use Rattle.model.specs.Image.{createCheck, openCheck};
 ghost use Rattle.model.specs.Lent.{creation, opening};
 ghost use Rattle.model.specs.Record.{entries};
 ghost use Rattle.model.specs.Store.{recordCall, batchCall, consolidateCall, outcomeReply, consolidatedReply, call};
-ghost use Rattle.lent.specs.Parts.{lentOf};
+ghost use Rattle.lookup.specs.Parts.{lentOf};
 ghost use Rattle.store.specs.Called.{doneOf};
 
 // Creates a plan's image at the start of a lent slice. Later bytes and the flags past the plan's rows stay.

@@ -12,7 +12,7 @@ use mathlib.Core.Bool.{Bool, true, false, cond}
 use mathlib.Core.List.{List, _∷_}
 use Rattle.model.specs.Ring.{Ring, slots, cursor, walk, isEmpty, firstPlace, order}
 use Rattle.laws.specs.Windows.{div-mono}
-use Rattle.rings.specs.Numbers.{slotsOf, walk-is, div-is}
+use Rattle.ring_theory.specs.Numbers.{slotsOf, walk-is, div-is}
 use Rattle.strand_theory.specs.Cuts.{In, Before}
 
 -- ---- passes: the numbers stamp / interval in a ring of n slots, the first pass starting at the number g

@@ -4,7 +4,7 @@ use mathlib.Core.Path.{_≡_, refl}
 use mathlib.Core.Bool.{Bool, true, false, _&&_}
 use lib.Dec.{ltb, eqb}
 use Rattle.demand.specs.Demand.{Sample, samplesIn, firstOf, ascending, all, isOffset, gapless, ticks, scheduled, supposed, Situation, finest, coarsest, history}
-use Rattle.samples.specs.Lists.{all-three}
+use Rattle.sample_theory.specs.Lists.{all-three}
 use Rattle.supposition.specs.Needed.{clauses, conj}
 
 pub supposed-is : (s : Situation) → supposed (finest s) (coarsest s) (history s) ≡ ltb 0 (firstOf (samplesIn (history s))) && conj (clauses s)

@@ -10,10 +10,10 @@ use Rattle.model.specs.Lent.{Lent, creation}
 use Rattle.model.specs.Query.{query, repliedBy}
 use Rattle.model.specs.Store.{Call, call, after, consolidateCall, queriedReply}
 use Rattle.demand.specs.Demand.{handedOut, created, upToRun, afterRun, answers}
-use Rattle.lent.specs.Parts.{lentOf}
-use Rattle.frame.specs.Calls.{after-append}
+use Rattle.lookup.specs.Parts.{lentOf}
+use Rattle.image_theory.specs.Calls.{after-append}
 use Rattle.fetch.specs.Fetch.{words}
-use Rattle.calls.specs.Encoded.{callsIn}
+use Rattle.tie_calls.specs.Encoded.{callsIn}
 use Rattle.tie.specs.Kept.{situation, Kept, kept}
 
 -- ---- calls, a run, calls

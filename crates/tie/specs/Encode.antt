@@ -12,8 +12,8 @@ use Rattle.model.specs.Record.{Entry, entryAt, entriesFrom, entries}
 use Rattle.model.specs.Store.{Call, recordCall, batchCall, queryCall, autoCall, consolidateCall, openCall}
 use Rattle.laws.specs.Tests.{yes-le, no-le}
 use Rattle.laws.specs.Bytes.{le-bytes}
-use Rattle.bits.specs.Bits.{bits, number, bits-of-number, number-fits}
-use Rattle.calls.specs.Encoded.{batchSize, sizeAt, size-low, recordAt, batchAt, queryAt, autoAt, handedAt, openAt, callAt, callsFrom, callsIn}
+use Rattle.flag_bits.specs.Bits.{bits, number, bits-of-number, number-fits}
+use Rattle.tie_calls.specs.Encoded.{batchSize, sizeAt, size-low, recordAt, batchAt, queryAt, autoAt, handedAt, openAt, callAt, callsFrom, callsIn}
 
 -- ---- the bytes of calls
 

@@ -16,10 +16,10 @@ use Rattle.model.specs.Lent.{Lent}
 use Rattle.model.specs.Store.{after}
 use Rattle.demand.specs.Demand.{Sample, count, isClosed, inWindow, sumOf, within, each, Situation, finest, afterRun, samples, answers, tierInterval, due}
 use Rattle.laws.specs.Tests.{split3}
-use Rattle.fidelity.specs.Stronger.{Supposition, StrongerDemand}
-use Rattle.fidelity.specs.Theorem.{stronger}
+use Rattle.demand_proved.specs.Stronger.{Supposition, StrongerDemand}
+use Rattle.demand_proved.specs.Theorem.{stronger}
 use Rattle.fetch.specs.Fetch.{words}
-use Rattle.calls.specs.Encoded.{callsIn}
+use Rattle.tie_calls.specs.Encoded.{callsIn}
 
 -- the situation that the function is called in; the calls stand in bytes
 abbrev pub situation : List ℕ → List ℕ → Flags → List ℕ → List ℕ → ℕ → ℕ → Situation

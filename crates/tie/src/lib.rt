@@ -4,8 +4,8 @@
 ghost use mathlib.Core.Path.{_≡_};
 ghost use mathlib.Core.List.{_++_, _∷_, []};
 ghost use Rattle.model.specs.Store.{after, consolidateCall};
-ghost use Rattle.lent.specs.Parts.{lentOf};
-ghost use Rattle.calls.specs.Encoded.{callsIn};
+ghost use Rattle.lookup.specs.Parts.{lentOf};
+ghost use Rattle.tie_calls.specs.Encoded.{callsIn};
 ghost use Rattle.tie.specs.Kept.{situation, Kept};
 
 // The flags as the last call left them, and how many points were written out.
@@ -18,10 +18,10 @@ pub struct Demanded {
 fn carry_all(image: &mut [u8], flags: model::Flags, before: &[u8], between: &[u8]) -> model::Flags
     ensures { λ r. ⌜ lentOf (now (image .exit)) r ≡ after (after (lentOf (now (image .entry)) flags) (callsIn (now (before .entry)) ++ consolidateCall ∷ [])) (callsIn (now (between .entry))) ⌝ }
 {
-    let recorded = calls::carry_out(image, flags, before);
+    let recorded = tie_calls::carry_out(image, flags, before);
     let done = consolidate::consolidate(image, recorded);
     let ran = done.flags;
-    calls::carry_out(image, ran, between)
+    tie_calls::carry_out(image, ran, between)
 }
 
 // From a plan to the points of a query after a run.
@@ -45,7 +45,7 @@ pub fn demand(
         column: column,
     };
     let queried = query::query(image, last, handle, tier, 0, 18446744073709551615);
-    let count = points::hand_answer(image, queried, out);
+    let count = tie_points::hand_answer(image, queried, out);
     Demanded {
         flags: last,
         count: count,

@@ -12,7 +12,7 @@ use Rattle.model.specs.declared.Held.{Held}
 use Rattle.model.specs.declared.Held.the-variants.{Outside, Infinite, Finite}
 use Rattle.model.specs.Ring.{stamp, cell, walk}
 use Rattle.model.specs.Window.{held, heldIn, seenOne, seen, keepFinite, finites, fold, foldStart, foldStep}
-use Rattle.rings.specs.Walk.{steps, walk-more, different, walk-once, held-append}
+use Rattle.ring_theory.specs.Walk.{steps, walk-more, different, walk-once, held-append}
 use Rattle.window.specs.declared.Reading.{Reading}
 use Rattle.window.specs.declared.Gathered.{Gathered}
 use Rattle.window.specs.Parts.{jobIn, gather}

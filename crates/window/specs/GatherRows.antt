@@ -12,7 +12,7 @@ use Rattle.model.specs.Layout.{freshSlab, freshValue}
 use Rattle.model.specs.Ring.{walk}
 use Rattle.model.specs.Window.{heldIn}
 use Rattle.model.specs.Cases.{Cases-defs, num, infinity}
-use Rattle.rings.specs.Walk.{absent, different}
+use Rattle.ring_theory.specs.Walk.{absent, different}
 use Rattle.window.specs.declared.Reading.{Reading}
 use Rattle.window.specs.Parts.{jobIn}
 use Rattle.window.specs.Gather.{begun, entered, pass}

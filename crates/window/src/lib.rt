@@ -94,7 +94,7 @@ fn enter(f: model::ConsolidationFn, g: Gathered, h: model::Held) -> Gathered
             value: g.value,
         },
         model::Held::Finite(x) => {
-            let value = apply::fold_step(f, g.value, x);
+            let value = window_apply::fold_step(f, g.value, x);
             Gathered {
                 seen: g.seen + 1,
                 finite: g.finite + 1,
@@ -118,7 +118,7 @@ fn gather_values(
     ensures { λ r. ⌜ r .finite < 4294967296 ⌝ }
 {
     let f = q.function;
-    let value = apply::fold_start(f);
+    let value = window_apply::fold_start(f);
     let mut g = Gathered {
         seen: 0,
         finite: 0,
@@ -157,6 +157,6 @@ pub fn answer(
         return model::WindowAnswer::NothingFinite;
     }
     let f = q.function;
-    let x = apply::fold_end(f, g.value, finite);
+    let x = window_apply::fold_end(f, g.value, finite);
     model::WindowAnswer::Number(x)
 }

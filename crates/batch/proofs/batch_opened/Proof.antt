@@ -5,7 +5,7 @@ use mathlib.Core.Logic.{_≢_}
 use lib.ListN.{length}
 use mathlib.Core.Bool.{true, not}
 use Rattle.model.specs.Record.{stampOk, entries, everyEntry}
-use Rattle.entries.specs.Entries.{fits, finite}
+use Rattle.batch_entries.specs.Entries.{fits, finite}
 use borrow.Author.Tests.{not-true, not-false}
 use Rattle.batch.proofs.Laws.{length-entries, empty-batch, refused-handle, refused-stamp, refused-value, recorded}
 use borrow.Author.Needs.{needs}

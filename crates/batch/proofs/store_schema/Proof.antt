@@ -5,8 +5,8 @@ use mathlib.Core.List.{List}
 use Rattle.model.specs.Lent.{rowNo}
 use Rattle.model.specs.Ring.{ColumnValue}
 use Rattle.model.specs.Record.{entries, entriesOf, writeTo}
-use Rattle.lent.specs.Handle.{first-there}
-use Rattle.bits.specs.Bits.{bits}
+use Rattle.lookup.specs.Handle.{first-there}
+use Rattle.flag_bits.specs.Bits.{bits}
 use Rattle.record.proofs.Laws.{lent-sound, lent-write}
 use Rattle.batch.proofs.Laws.{columns-at}
 use borrow.Author.Needs.{needs}

@@ -6,8 +6,8 @@ use mathlib.Core.Path.{_≡_, refl, sym, _∙_}
 use lib.ListN.{length}
 use Rattle.model.specs.Image.{schemas}
 use Rattle.model.specs.Record.{entries}
-use Rattle.bits.specs.One.{lentAt}
-use Rattle.lent.proofs.Laws.{header-in-slice}
+use Rattle.flag_bits.specs.One.{lentAt}
+use Rattle.lookup.proofs.Laws.{header-in-slice}
 use Rattle.batch.proofs.Laws.{Running, starts, schema-in, goes-on, passes, ends}
 use borrow.Author.Needs.{needs}
 use Rattle.batch.proofs.store_schemas.Statement.{statement}

@@ -4,7 +4,7 @@ use mathlib.Core.Path.{_≡_, refl, _∙_}
 use mathlib.Core.Bool.{not}
 use lib.Dec.{eqb}
 use Rattle.model.specs.Ring.{anyStamp}
-use Rattle.joined.specs.Slots.{one-slot, piece-some, piece-none, piece-last}
+use Rattle.ring_joined.specs.Slots.{one-slot, piece-some, piece-none, piece-last}
 use Rattle.open.proofs.Laws.{Searching}
 use borrow.Author.Needs.{needs}
 use Rattle.open.proofs.any_single.Statement.{statement}

@@ -1,7 +1,7 @@
 -- `open::any_stamp` meets its contract: eight slots are met as one is. Assumes nothing.
 use native.Mathlib.Omega.{arith}
 use mathlib.Core.Path.{refl, _∙_}
-use Rattle.joined.specs.Slots.{piece-some, piece-none}
+use Rattle.ring_joined.specs.Slots.{piece-some, piece-none}
 use Rattle.open.proofs.Laws.{Searching}
 use borrow.Author.Needs.{needs}
 use Rattle.open.proofs.any_stamp.Statement.{statement}

@@ -1,10 +1,10 @@
 -- `query::auto_numbered` meets its contract, one case a return. Assumes nothing.
 use native.Mathlib.Omega.{arith}
 use mathlib.Core.Path.{_≡_, refl, sym, _∙_}
-use Rattle.lent.specs.Parts.{finestOf}
-use Rattle.lent.specs.declared.Finest.the-variants.{At}
-use Rattle.bits.specs.Bits.{bits}
-use Rattle.cover.proofs.Laws.{answer-is}
+use Rattle.lookup.specs.Parts.{finestOf}
+use Rattle.lookup.specs.declared.Finest.the-variants.{At}
+use Rattle.flag_bits.specs.Bits.{bits}
+use Rattle.tiers.proofs.Laws.{answer-is}
 use Rattle.query.proofs.Laws.{auto-bad-handle, auto-bad-range, auto-answers, finest-is, some-tier-there, row-low}
 use borrow.Author.Needs.{needs}
 use Rattle.query.proofs.auto_numbered.Statement.{statement}

@@ -1,6 +1,6 @@
 -- `query::query_numbered` meets its contract: the refusal that `seek` found, or the answer of the row that it found. Assumes nothing.
 use mathlib.Core.Path.{_∙_}
-use Rattle.bits.specs.Bits.{bits}
+use Rattle.flag_bits.specs.Bits.{bits}
 use Rattle.query.specs.Sought.{SoughtAt, row-sought, refusal-sought}
 use borrow.Author.Needs.{needs}
 use Rattle.query.proofs.query_numbered.Statement.{statement}

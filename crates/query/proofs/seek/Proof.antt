@@ -2,8 +2,8 @@
 use native.Mathlib.Omega.{arith}
 use mathlib.Core.Path.{_≡_, sym, _∙_}
 use borrow.Author.Tests.{not-true, not-false, ltb-true, ltb-false}
-use Rattle.lent.specs.Parts.{finestOf}
-use Rattle.lent.specs.declared.Finest.the-variants.{At}
+use Rattle.lookup.specs.Parts.{finestOf}
+use Rattle.lookup.specs.declared.Finest.the-variants.{At}
 use Rattle.query.proofs.Laws.{bad-handle, bad-tier, bad-range, finest-is, finest-there, row-low, sought-at}
 use borrow.Author.Needs.{needs}
 use Rattle.query.proofs.seek.Statement.{statement}

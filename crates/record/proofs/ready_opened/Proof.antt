@@ -3,8 +3,8 @@ use mathlib.Core.Path.{_≡_, sym, _∙_}
 use borrow.Author.Tests.{not-true, not-false}
 use Rattle.model.specs.Ring.{isInfinite}
 use Rattle.model.specs.Record.{stampOk}
-use Rattle.lent.specs.Parts.{finestOf}
-use Rattle.lent.specs.declared.Finest.the-variants.{At}
+use Rattle.lookup.specs.Parts.{finestOf}
+use Rattle.lookup.specs.declared.Finest.the-variants.{At}
 use Rattle.record.proofs.Laws.{refused-handle, refused-value, refused-stamp, ready-at}
 use borrow.Author.Needs.{needs}
 use Rattle.record.proofs.ready_opened.Statement.{statement}

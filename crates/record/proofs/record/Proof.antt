@@ -1,7 +1,7 @@
 -- `record::record` meets its contract: the refusal that `ready` found, or the write to the row that it found. Assumes nothing.
 use native.Mathlib.Omega.{arith}
-use Rattle.lent.specs.Parts.{lentOf, withFlag}
-use Rattle.lent.specs.Handle.{row-there}
+use Rattle.lookup.specs.Parts.{lentOf, withFlag}
+use Rattle.lookup.specs.Handle.{row-there}
 use Rattle.record.specs.Ready.{ReadyAt, row-ready, refusal-ready, refused, recorded}
 use borrow.Author.Needs.{needs}
 use Rattle.record.proofs.record.Statement.{statement}

@@ -2,8 +2,8 @@
 -- went below the cursor. Assumes nothing.
 use native.Mathlib.Omega.{arith}
 use mathlib.Core.Path.{refl}
-use Rattle.lent.specs.Handle.{row-there}
-use Rattle.bits.specs.One.{lentAt}
+use Rattle.lookup.specs.Handle.{row-there}
+use Rattle.flag_bits.specs.One.{lentAt}
 use Rattle.record.specs.Ready.{ReadyAt, row-ready, refusal-ready, refused, recorded-as-off}
 use borrow.Author.Needs.{needs}
 use Rattle.record.proofs.record_opened.Statement.{statement}

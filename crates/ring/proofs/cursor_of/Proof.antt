@@ -1,5 +1,5 @@
 -- `ring::cursor_of` meets its contract: the u32 at 32. Assumes nothing.
-use Rattle.rings.specs.Sound.{header-in}
+use Rattle.ring_theory.specs.Sound.{header-in}
 use Rattle.model.specs.Ring.{cursor}
 use native.Mathlib.Omega.{arith}
 use Rattle.ring.proofs.cursor_of.Statement.{statement}

@@ -42,7 +42,7 @@ use denote.Triple.Walked.{says, Stays, stay-ref, gave-slice, walkOf, goes-ref, g
 use Rattle.model.specs.declared.Flags.{Flags}
 use Rattle.model.specs.declared.Consolidated.{Consolidated}
 use Rattle.model.specs.Store.{call, consolidateCall}
-use Rattle.lent.specs.Parts.{lentOf}
+use Rattle.lookup.specs.Parts.{lentOf}
 use Rattle.consolidate.specs.declared.Consolidation.{Consolidation}
 use Rattle.consolidate.specs.Parts.{runDone}
 use Rattle.model.proofs.Flags as F

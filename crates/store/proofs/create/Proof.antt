@@ -44,7 +44,7 @@ use Rattle.model.specs.declared.Flags.{Flags}
 use Rattle.model.specs.Words.{outcomeNo}
 use Rattle.model.specs.Image.{createCheck}
 use Rattle.model.specs.Lent.{creation}
-use Rattle.lent.specs.Parts.{lentOf}
+use Rattle.lookup.specs.Parts.{lentOf}
 use Rattle.create.specs.declared.Created.{Created}
 use Rattle.model.proofs.Flags as F
 use Rattle.model.proofs.Flags.Laws as F′

@@ -44,7 +44,7 @@ use Rattle.model.specs.declared.Flags.{Flags}
 use Rattle.model.specs.Words.{outcomeNo}
 use Rattle.model.specs.Image.{openCheck}
 use Rattle.model.specs.Lent.{opening}
-use Rattle.lent.specs.Parts.{lentOf}
+use Rattle.lookup.specs.Parts.{lentOf}
 use Rattle.open.specs.declared.Opened.{Opened}
 use Rattle.model.proofs.Flags as F
 use Rattle.model.proofs.Flags.Laws as F′

@@ -45,7 +45,7 @@ use denote.Exit.{yes}
 use Rattle.model.specs.declared.Flags.{Flags}
 use Rattle.model.specs.declared.SeriesHandle.{SeriesHandle}
 use Rattle.model.specs.Words.{outcomeNo}
-use Rattle.lent.specs.Parts.{lentOf}
+use Rattle.lookup.specs.Parts.{lentOf}
 use Rattle.record.specs.declared.Recorded.{Recorded}
 use Rattle.record.specs.Done.{RecordDone}
 use Rattle.store.specs.Called.{record-called}

@@ -44,7 +44,7 @@ use denote.Exit.{yes}
 use Rattle.model.specs.declared.Flags.{Flags}
 use Rattle.model.specs.Words.{outcomeNo}
 use Rattle.model.specs.Record.{entries}
-use Rattle.lent.specs.Parts.{lentOf}
+use Rattle.lookup.specs.Parts.{lentOf}
 use Rattle.record.specs.declared.Recorded.{Recorded}
 use Rattle.batch.specs.Done.{BatchDone}
 use Rattle.store.specs.Called.{batch-called}

@@ -1,8 +1,8 @@
 -- `tie::carry_all` meets its contract: what each call leaves is lent to the next. Assumes nothing.
 use mathlib.Core.Path.{ap, _∙_}
 use Rattle.model.specs.Store.{Done}
-use Rattle.lent.specs.Parts.{lentOf}
-use Rattle.calls.specs.Encoded.{callsIn}
+use Rattle.lookup.specs.Parts.{lentOf}
+use Rattle.tie_calls.specs.Encoded.{callsIn}
 use Rattle.tie.proofs.Laws.{carried}
 use Rattle.tie.proofs.carry_all.Statement.{statement}
 use Rattle.tie.proofs.carry_all.Tie as tie

@@ -1,0 +1,58 @@
+-- One write to a ring that took numbers without gaps: at the next number, or at the newest one again, as where several columns share a number or a window
+-- is rewritten. The ring then holds what Hold says, with one number more or as many as before. Assumes nothing.
+use Prim.Native.Nat.{ℕ, suc, _+_, _*_, _/_, _%_, _^_, _≤_, _<_}
+use native.Mathlib.Nat.{mul-div-cancel}
+use native.Mathlib.Omega.{arith}
+use native.Mathlib.Decide.{ℕ-discrete}
+use mathlib.Core.Path.{_≡_, refl, sym, ap, _∙_, subst}
+use mathlib.Core.Bool.{_||_}
+use mathlib.Core.List.{List}
+use lib.Dec.{ltb}
+use Rattle.model.specs.Ring.{Ring, ColumnValue, cursor, stamp, write}
+use Rattle.ring_theory.specs.Write.{Fit, Wrote, flag-is}
+use Rattle.ring_theory.specs.Sound.{some-slots, slot-is, sound-write, wrote-sound}
+use Rattle.ring_theory.specs.Column.{keeps-put}
+use Rattle.ring_theory.specs.Hold.{Slab, Flag, State, newestSlot, flag-step}
+
+module _ (r : Ring) (es : List ColumnValue) (q : ℕ) {n m d : ℕ} (h : Slab (r .slab) n m d) where
+  slot-at : q * d / d % n ≡ q % n
+  slot-at = rw (mul-div-cancel q (h .long))
+
+  -- what number q leaves
+  pub at-number : Fit m es → q * d < 2 ^ 63 → Wrote (r .slab) (q % n) (q * d) es (write r es (q * d) .slab)
+  at-number f b = rw slot-at at (wrote-sound r es (q * d) n m d (h .sound) (omega arith) f)
+
+  pub flag-at : write r es (q * d) .wrapped ≡ (r .wrapped || ltb (q % n) (cursor (r .slab)))
+  flag-at = flag-is r es (q * d) ∙ ap (λ (i : ℕ). r .wrapped || ltb i (cursor (r .slab))) (slot-is (h .sound) (q * d) ∙ slot-at)
+
+  pub slab-at : Fit m es → q * d < 2 ^ 63 → Slab (write r es (q * d) .slab) n m d
+  slab-at f b = record { sound = sound-write r es (q * d) n m d (h .sound); long = h .long; low = λ i hi. go i hi (ℕ-discrete i (q % n)) }
+    where
+      go : (i : ℕ) → i < n → Dec (i ≡ q % n) → stamp (write r es (q * d) .slab) i < 2 ^ 63
+      go i hi (yes e) = rw (e, at-number f b .stamp-is) b
+      go i hi (no e) = rw (at-number f b .stamp-other i (rw (h .sound .slots-is) hi) e) (h .low i hi)
+
+module _ {r : Ring} (es : List ColumnValue) {n m d : ℕ} (f : Fit m es) where
+  -- number a + k, the next (e is k) or the newest again (e is k + 1)
+  pub step-at : {a e : ℕ} (k : ℕ) → k ≤ e → e ≤ suc k → State r n m d a e → (a + k) * d < 2 ^ 63 → State (write r es ((a + k) * d)) n m d a (suc k)
+  unfolding newestSlot
+  step-at {a} {e} k from to h b =
+      let s = h .slab-is in
+      let w = at-number r es (a + k) s f b in
+      let z : 0 < n = some-slots (s .sound) in
+      record {
+        slab-is = slab-at r es (a + k) s f b;
+        cursor-is = w .rest .cursor-is;
+        stamps = keeps-put 0 (stamp (r .slab)) (stamp (write r es ((a + k) * d) .slab)) n a e k ((a + k) * d) (λ (q : ℕ). q * d) (λ (q : ℕ). q * d) z from to
+            (w .stamp-is) (λ i hi ne. w .stamp-other i (rw (s .sound .slots-is) hi) ne) refl (λ q x y. refl) (h .stamps);
+        flag = subst (Flag n a (suc k)) (sym (flag-at r es (a + k) s ∙ ap (λ (i : ℕ). r .wrapped || ltb ((a + k) % n) i) (h .cursor-is)))
+            (flag-step n a e k (r .wrapped) z from to (h .flag));
+      }
+
+  -- the next number
+  pub step-new : {a e : ℕ} → State r n m d a e → (a + e) * d < 2 ^ 63 → State (write r es ((a + e) * d)) n m d a (suc e)
+  step-new {a} {e} h b = step-at e (omega arith) (omega arith) h b
+
+  -- the number that the ring is at
+  pub step-same : {a e : ℕ} → State r n m d a (suc e) → (a + e) * d < 2 ^ 63 → State (write r es ((a + e) * d)) n m d a (suc e)
+  step-same {a} {e} h b = step-at e (omega arith) (omega arith) h b

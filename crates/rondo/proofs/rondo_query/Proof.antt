@@ -1,0 +1,30 @@
+-- `rondo::rondo_query` meets its contract: opening's refusal, or what `query::query_numbered` answers, as numbers. Assumes nothing.
+use mathlib.Core.Path.{sym, _∙_}
+use Rattle.query.proofs.Laws.{unopened}
+use Rattle.rondo.proofs.Laws.{asked, not-found}
+use borrow.Author.Needs.{needs}
+use Rattle.rondo.proofs.rondo_query.Statement.{statement}
+use Rattle.rondo.proofs.rondo_query.Tie as tie
+
+check-requires : tie.Need-check-requires
+check-requires c κs = search needs
+
+returns : tie.Need-returns
+returns c = let n = c .before .check in not-found _ _ (unopened _ _ _ _ _ _ _ _ (c .if1 .taken) (n .ensures))
+
+query-numbered-requires : tie.Need-query-numbered-requires
+query-numbered-requires c κs = sym (c .before .check .ensures) ∙ c .if1 .left
+
+answer-query-requires : tie.Need-answer-query-requires
+answer-query-requires c κs = search needs
+
+returns-2 : tie.Need-returns-2
+returns-2 c =
+    let q = c .before .before .query-numbered in
+    let answer = c .answer-query .ensures in
+    asked _ (q .result) _ _ _ _ (answer .0) (answer .1) (q .ensures)
+
+pub rondo-query-spec : {M : Type 1} → statement M
+rondo-query-spec =
+    tie.close
+    (tie.spec check-requires returns query-numbered-requires answer-query-requires returns-2)
