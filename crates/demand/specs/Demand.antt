@@ -13,7 +13,8 @@ use Rattle.model.specs.declared.Point.{Point}
 use Rattle.model.specs.Image.{rows, rowAt, rowCount, schemas, rowSlots, createCheck}
 use Rattle.model.specs.Read.{pointsOf}
 use Rattle.model.specs.Lent.{Lent, creation}
-use Rattle.model.specs.Record.{recordCheck, batchCheck}
+use Rattle.model.specs.Record.{Entry, recordCheck, batchCheck}
+use Rattle.model.specs.Query.{Answered}
 use Rattle.model.specs.Store.{Call, queryCall, consolidateCall, Reply, refused, done, wrote, read, Deed, reads, records, recordsAll, runs, opens, deed, call, after}
 
 -- ---- the plan: two to four tiers

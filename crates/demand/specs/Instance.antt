@@ -1,20 +1,21 @@
 -- The third demand is not empty: a list of calls on three tiers that meets the supposition, with the promised answers, by computation. It stands beside the
 -- statement, so that an edit of it meets it. Assumes nothing.
-use Prim.Native.Nat.{ℕ, _-_, _^_}
+use Prim.Native.Nat.{ℕ, zero, suc, _+_, _-_, _*_, _^_}
 use mathlib.Core.Path.{_≡_, refl}
 use mathlib.Core.Bool.{Bool, true, false, _&&_}
-use mathlib.Core.List.{List, [], _∷_}
-use lib.ListN.{replicate}
+use mathlib.Core.List.{List, [], _∷_, _++_, map}
+use lib.ListN.{length, replicate}
 use lib.Dec.{T, eqb}
-use lib.IntN.{negsuc}
+use lib.IntN.{pos, negsuc}
 use lib.Ieee.{binary64, toBits, ofInt}
 use Rattle.model.specs.declared.Row.{Row}
 use Rattle.model.specs.declared.Point.{Point}
 use Rattle.model.specs.Image.{rows, createCheck}
 use Rattle.model.specs.Lent.{Lent}
+use Rattle.model.specs.Record.{Entry}
 use Rattle.model.specs.Store.{Call, call, after, recordCall, batchCall, queryCall, autoCall, consolidateCall, openCall}
 use Rattle.demand.specs.Demand.{Demand-defs, Situation, Event, took, ran, samplesIn, suited, scheduled, supposed, history, newestWindows, each, answers, used, events, created, upToRun, afterRun, handedOut}
-use Rattle.model.specs.Cases.{Cases-defs, tier, plan, num, infinity, at}
+use Rattle.model.specs.Cases.{Cases-defs, tierOf, tier, plan, num, infinity, at}
 
 -- ---- the list
 

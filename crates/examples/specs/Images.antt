@@ -1,7 +1,7 @@
 -- Bytes and layout, plans and images of several rows, to the byte; faults also in rows that are not the first. By computation. Assumes nothing.
 use Prim.Native.Nat.{ℕ, zero, suc, _+_, _-_, _^_}
 use mathlib.Core.Path.{_≡_, refl}
-use mathlib.Core.Bool.{true, false}
+use mathlib.Core.Bool.{Bool, true, false}
 use mathlib.Core.List.{List, [], _∷_, _++_, map}
 use lib.ListN.{take, replicate}
 use Rattle.model.specs.declared.Row.{Row}

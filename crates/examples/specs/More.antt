@@ -1,26 +1,28 @@
 -- Sentences of document 01 that the cases A to L leave untried, as rows of the same kind, by computation. Assumes nothing.
-use Prim.Native.Nat.{ℕ, _+_, _-_}
+use Prim.Native.Nat.{ℕ, zero, suc, _+_, _-_, _*_, _^_}
 use mathlib.Core.Path.{_≡_, refl}
-use mathlib.Core.Bool.{true, false}
-use mathlib.Core.List.{List, [], _∷_, _++_}
-use lib.ListN.{replicate}
+use mathlib.Core.Bool.{Bool, true, false}
+use mathlib.Core.List.{List, [], _∷_, _++_, map}
+use lib.ListN.{length, take, drop, replicate}
 use Rattle.model.specs.declared.Row.{Row}
 use lib.IntN.{pos}
 use lib.Ieee.{binary64, ofBits}
+use Rattle.model.specs.declared.Point.{Point}
 use Rattle.model.specs.declared.Next.the-variants.{Handed, Finished}
 use Rattle.model.specs.declared.Stepped.{Stepped}
+use Rattle.model.specs.declared.End.{End}
 use Rattle.model.specs.declared.End.the-variants.{At, Missing}
 use Rattle.model.specs.declared.ConsolidationFn.the-variants.{Average, Min, Max, Last, Sum, Count}
-use Rattle.model.specs.Bytes.{bytes, put}
+use Rattle.model.specs.Bytes.{bytes, put, part}
 use Rattle.model.specs.Layout.{freshValue}
 use Rattle.model.specs.Image.{planCheck, openCheck}
-use Rattle.model.specs.Ring.{write, stamp, cell}
+use Rattle.model.specs.Ring.{Ring, write, stamp, cell}
 use Rattle.model.specs.Read.{step}
 use Rattle.model.specs.Lent.{Lent, creation, opening, ring}
 use Rattle.demand.specs.Demand.{Demand-defs, within}
 use Rattle.model.specs.Record.{Entry, entries}
-use Rattle.model.specs.Store.{Call, call, recordCall, batchCall, queryCall, autoCall, consolidateCall, openCall, refused, done, refusal, writes, points}
-use Rattle.model.specs.Cases.{Cases-defs, tierOf, tier, planOf, plan, num, infinity, story, window, Result, last, value, empty, nothingFinite, Case, _gives_, Holds, ring10, rec, end64, everything, at, lastCall, shownOn}
+use Rattle.model.specs.Store.{Call, Reply, Done, call, recordCall, batchCall, queryCall, autoCall, consolidateCall, openCall, refused, done, wrote, read, Shown, refusal, accepted, writes, points, shown}
+use Rattle.model.specs.Cases.{Cases-defs, tierOf, tier, planOf, plan, num, infinity, fresh, Question, story, window, Result, last, value, empty, nothingFinite, Case, _gives_, Holds, ring10, two, rec, end64, everything, at, lastCall, shownOn}
 
 unfoldable pub both : ℕ → ℕ → ℕ → Call
 both t a b = batchCall (record { schema = 0; column = 0; value = a } ∷ record { schema = 0; column = 1; value = b } ∷ []) t

@@ -1,21 +1,26 @@
 -- A reader's whole steps, readers made by hand that can't be read, and a query's whole answer of a row that is not the first. By computation. Assumes nothing.
 use Prim.Native.Nat.{ℕ, _+_, _-_}
 use mathlib.Core.Path.{_≡_, refl}
-use mathlib.Core.Bool.{true, false}
+use mathlib.Core.Bool.{Bool, true, false}
 use mathlib.Core.List.{List, [], _∷_, _++_}
 use lib.ListN.{take, drop, replicate}
+use Rattle.model.specs.declared.Row.{Row}
 use Rattle.model.specs.declared.Refusal.the-variants.{InvalidTier}
+use Rattle.model.specs.declared.Place.{Place}
 use Rattle.model.specs.declared.Point.{Point}
 use Rattle.model.specs.declared.Next.{Next}
 use Rattle.model.specs.declared.Next.the-variants.{Handed, Finished}
 use Rattle.model.specs.declared.Stepped.{Stepped}
+use Rattle.model.specs.declared.End.{End}
 use Rattle.model.specs.declared.End.the-variants.{At, Missing}
 use Rattle.model.specs.declared.Queried.the-variants.{Answer, Refused}
 use Rattle.model.specs.Bytes.{bytes, put}
 use Rattle.model.specs.Layout.{freshValue, freshSlab}
+use Rattle.model.specs.Ring.{Ring}
 use Rattle.model.specs.Read.{Reader, step, pointsOf, full, incomplete, bothEnds}
 use Rattle.model.specs.Lent.{Lent, creation}
-use Rattle.model.specs.Query.{QueryReply, found, notFound, query, queryAuto, repliedBy}
+use Rattle.model.specs.Record.{Entry}
+use Rattle.model.specs.Query.{Answered, QueryReply, found, notFound, query, queryAuto, repliedBy}
 use Rattle.model.specs.Cases.{Cases-defs, tierOf, planOf, num, end64, at}
 
 -- ---- steps: a slab of three slots and two series, stamped 30, 10, 20. Column 0 holds 5, 6, 7, column 1 holds 1, 2 and NaN

@@ -5,14 +5,15 @@ use mathlib.Core.Bool.{Bool, true, false}
 use mathlib.Core.List.{List, [], _∷_, _++_}
 use lib.ListN.{replicate}
 use Rattle.model.specs.declared.Row.{Row}
+use Rattle.model.specs.declared.End.{End}
 use Rattle.model.specs.declared.End.the-variants.{At}
 use Rattle.model.specs.Bytes.{put}
 use Rattle.model.specs.Layout.{freshHead, freshSlab}
-use Rattle.model.specs.Ring.{Ring, write, stamp}
+use Rattle.model.specs.Ring.{Ring, ColumnValue, write, stamp}
 use Rattle.model.specs.Lent.{Lent, creation, ring}
 use Rattle.model.specs.Record.{Entry, entries}
-use Rattle.model.specs.Store.{Call, Reply, call, after, recordCall, batchCall, queryCall, autoCall, consolidateCall, refused, done, wrote, read, accepted, writes, points}
-use Rattle.model.specs.Cases.{Cases-defs, tierOf, tier, planOf, num, infinity, story, last, Case, _gives_, Holds, rec, end64, everything, at}
+use Rattle.model.specs.Store.{Call, Reply, Done, call, after, recordCall, batchCall, queryCall, autoCall, consolidateCall, refused, done, wrote, read, Shown, accepted, writes, points, shown}
+use Rattle.model.specs.Cases.{Cases-defs, tierOf, tier, planOf, num, infinity, Question, story, Result, last, Case, _gives_, Holds, rec, end64, everything, at}
 
 -- ---- patterns: NaN by its exponent and a fraction that is not zero, whatever sign and quiet bit
 

@@ -5,6 +5,7 @@ use mathlib.Core.Bool.{Bool, true, false, _&&_, cond}
 use mathlib.Core.List.{List, [], _∷_, map}
 use lib.ListN.{take, replicate}
 use lib.Dec.{T, eqb}
+use Rattle.model.specs.declared.Row.{Row}
 use Rattle.model.specs.declared.Outcome.the-variants as O
 use Rattle.model.specs.declared.Consolidated.the-variants as C
 use Rattle.model.specs.declared.Queried.the-variants as Q
@@ -13,8 +14,9 @@ use Rattle.model.specs.Bytes.{put, get}
 use Rattle.model.specs.Layout.{freshValue}
 use Rattle.model.specs.Image.{rows, rowCount}
 use Rattle.model.specs.Lent.{Lent, creation}
+use Rattle.model.specs.Record.{Entry}
 use Rattle.model.specs.Consolidate.{Run, run}
-use Rattle.model.specs.Store.{Call, after, replies, recordCall, batchCall, queryCall, consolidateCall, refused, done, wrote, outcomeReply, consolidatedReply, queriedReply}
+use Rattle.model.specs.Store.{Call, Reply, after, replies, recordCall, batchCall, queryCall, consolidateCall, refused, done, wrote, outcomeReply, consolidatedReply, queriedReply}
 use Rattle.demand.specs.Instance.{sameNumbers}
 use Rattle.model.specs.Cases.{Cases-defs, tierOf, tier, planOf, num, infinity, fresh, rec}
 

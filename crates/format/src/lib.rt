@@ -59,10 +59,8 @@ pub const SLAB_INTERVAL: usize = 24;
 
 pub const SLAB_CURSOR: usize = 32;
 
-// An entry of a batch: its length, and its fields.
+// An entry of a batch: its length, and its fields behind the schema, which stands first.
 pub const ENTRY: usize = 16;
-
-pub const ENTRY_SCHEMA: usize = 0;
 
 pub const ENTRY_COLUMN: usize = 4;
 

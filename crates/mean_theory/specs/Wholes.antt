@@ -1,4 +1,4 @@
--- "WholeNumber offsets add exactly, the mean rounds once" (document 01). The sum of whole numbers from -0.0, left to right, is exact as long as their sizes
+-- "Whole offsets add exactly, the mean rounds once" (document 01). The sum of whole numbers from -0.0, left to right, is exact as long as their sizes
 -- add up to at most 2 ^ 53, as those of 4,096 whole offsets do; a sum of 0 is -0.0 exactly where every value is -0.0. So the sum is known bit for bit,
 -- and the average of whole offsets is the exact quotient, rounded once. Assumes nothing.
 use mathlib.Core.Path.{_≡_, refl, sym, ap, _∙_, subst}

@@ -1,6 +1,6 @@
 -- The cases A to L of document 01 as rows of one table, and the theorem that each row holds, by computation.
 -- The stores have two series, so that the Rust can run the same rows. Assumes nothing.
-use Prim.Native.Nat.{ℕ, zero, suc, _+_, _*_}
+use Prim.Native.Nat.{ℕ, zero, suc, _+_, _*_, _^_}
 use mathlib.Core.Path.{_≡_, refl}
 use mathlib.Core.Bool.{Bool, true, false}
 use mathlib.Core.List.{List, [], _∷_, _++_, map}
@@ -9,23 +9,24 @@ use lib.IntN.{pos}
 use lib.Ieee.{binary64, ofBits, toBits, ofInt, add, div, lt}
 use Rattle.model.specs.declared.Row.{Row}
 use Rattle.model.specs.declared.Point.{Point}
-use Rattle.model.specs.declared.End.the-variants.{At}
+use Rattle.model.specs.declared.End.{End}
+use Rattle.model.specs.declared.End.the-variants.{At, Missing}
 use Rattle.model.specs.declared.ConsolidationFn.{ConsolidationFn}
-use Rattle.model.specs.declared.ConsolidationFn.the-variants.{Average}
+use Rattle.model.specs.declared.ConsolidationFn.the-variants.{Average, Min, Max, Last, Sum, Count}
 use Rattle.model.specs.declared.WindowAnswer.{WindowAnswer}
 use Rattle.model.specs.declared.WindowAnswer.the-variants.{Empty, Number, NothingFinite}
-use Rattle.model.specs.Bytes.{Bytes-defs, bytes}
+use Rattle.model.specs.Bytes.{Bytes-defs, bytes, put}
 use Rattle.model.specs.Words.{Words-defs}
 use Rattle.model.specs.Layout.{Layout-defs, freshValue, stampsAt, columnAt, slabLength}
-use Rattle.model.specs.Image.{Image-defs, rows, rowPlace, rowCount, placedRows, allRows, planCheck, imageLength, rowSlots}
+use Rattle.model.specs.Image.{Image-defs, rows, rowPlace, rowCount, placedRows, allRows, planCheck, createCheck, openCheck, imageLength, rowSlots}
 use Rattle.model.specs.Ring.{Ring-defs}
 use Rattle.model.specs.Read.{Read-defs, full, incomplete}
 use Rattle.model.specs.Window.{Window-defs, heldValue, seen, finites, answerOf}
 use Rattle.model.specs.Lent.{Lent-defs, Lent, creation}
-use Rattle.model.specs.Record.{Record-defs}
+use Rattle.model.specs.Record.{Record-defs, Entry}
 use Rattle.model.specs.Query.{Query-defs}
 use Rattle.model.specs.Consolidate.{Consolidate-defs}
-use Rattle.model.specs.Store.{Store-defs, Call, Done, call, recordCall, batchCall, queryCall, consolidateCall, openCall, done, Shown, refusal, writes, points, shown}
+use Rattle.model.specs.Store.{Store-defs, Call, Done, call, recordCall, batchCall, queryCall, autoCall, consolidateCall, openCall, done, Shown, refusal, writes, points, shown}
 
 -- ---- plans, samples, stores
 

@@ -13,7 +13,7 @@ use Rattle.model.specs.declared.TierFn.the-variants.{None, Some}
 use Rattle.model.specs.declared.WindowAnswer.{WindowAnswer}
 use Rattle.model.specs.declared.WindowAnswer.the-variants.{Empty, Number, NothingFinite}
 use Rattle.model.specs.Words.{functionNo}
-use Rattle.model.specs.Bytes.{put64}
+use Rattle.model.specs.Bytes.{put64, put}
 use Rattle.model.specs.Layout.{freshValue}
 use Rattle.model.specs.Image.{rowCount, markAt, unless, first, openCheck}
 use Rattle.model.specs.Ring.{Ring, write, slots, stamp, order, oldest, newest, isInfinite}

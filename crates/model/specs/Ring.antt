@@ -7,7 +7,7 @@ use lib.Dec.{leb, ltb, eqb}
 use Rattle.model.specs.declared.End.{End}
 use Rattle.model.specs.declared.End.the-variants.{At, Missing}
 use Rattle.model.specs.declared.Place.{Place}
-use Rattle.model.specs.Bytes.{u32, u64, put32, put64}
+use Rattle.model.specs.Bytes.{u32, u64, put32, put64, get, put}
 use Rattle.model.specs.Layout.{stampsAt, columnAt}
 
 -- ---- the fields of a slab

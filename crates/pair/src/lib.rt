@@ -19,7 +19,12 @@ pub struct Progress {
 }
 
 // The pair of a row and the next, whose stamps are all good.
-fn pair_at(image: &[u8], flags: model::Flags, row: usize, f: model::ConsolidationFn) -> pair_fill::Pair
+fn pair_at(
+    image: &[u8],
+    flags: model::Flags,
+    row: usize,
+    f: model::ConsolidationFn,
+) -> pair_fill::Pair
     requires { ⌜ Adjacent (now image) row ⌝ }
     requires { ⌜ stampsBelow (slabOf (now image) (rowAt (now image) row)) 0 (slots (slabOf (now image) (rowAt (now image) row))) ≡ true ⌝ }
     ensures { λ r. ⌜ PairAt (now (image .entry)) flags row f r ⌝ }

@@ -9,12 +9,10 @@ use mathlib.Core.Path.{_≡_, refl, sym, ap, _∙_, subst}
 use mathlib.Core.Logic.{_≢_}
 use mathlib.Core.Bool.{Bool, true, false, cond}
 use mathlib.Core.List.{List, [], _∷_}
-use lib.Dec.{lit<}
 use lib.Ieee.{Float, binary64, toBits}
 use Rattle.model.specs.declared.WindowAnswer.{WindowAnswer}
-use Rattle.model.specs.declared.WindowAnswer.the-variants.{Empty, Number, NothingFinite}
+use Rattle.model.specs.declared.WindowAnswer.the-variants.{Empty, Number}
 use Rattle.model.specs.Bytes.{get}
-use Rattle.model.specs.Layout.{freshValue}
 use Rattle.model.specs.Image.{first, unless}
 use Rattle.model.specs.Record.{stampOk}
 use Rattle.model.specs.Ring.{Ring, ColumnValue, cell, write, isInfinite}
@@ -60,10 +58,6 @@ pub record Given (A : WindowAnswer) (v : ℕ) : Type 0 where
 pub given-number : {A : WindowAnswer} (x : Float) (v : ℕ) → A ≡ Number x → toBits binary64 x ≡ v → isInfinite v ≡ false → v < 2 ^ 64 → Given A v
 unfolding writeAnswer
 given-number x v e b i l = record { written = λ f w c. rw (e, b); finite = i; small = l }
-
-pub given-nothing : {A : WindowAnswer} → A ≡ NothingFinite → Given A freshValue
-unfolding writeAnswer freshValue isInfinite
-given-nothing e = record { written = λ f w c. rw e; finite = refl; small = lit< tt }
 
 -- ---- one window: number a + k of the destination, the next (e is k) or the newest again (e is k + 1)
 

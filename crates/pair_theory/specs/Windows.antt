@@ -55,10 +55,6 @@ spans-any r g k z l = record { inside = λ p x y. (omega (arith, div-mul-le-self
     last : (y : ℕ) → y < g / r + suc (k / r - g / r) → y * r < suc k
     last y w = let q : y ≤ k / r = omega (arith, many) in omega (arith, mul-le-mul-right r q, div-mul-le-self k r)
 
--- no numbers
-pub spans-none : (r g x : ℕ) → Spans r g g x 0
-spans-none r g x = record { inside = λ p l u. absurd (omega arith); hit = λ y l u. absurd (omega arith) }
-
 -- no more windows than numbers
 pub spans-few : {r g h x j : ℕ} → 0 < r → Spans r g h x j → j ≤ h - g
 spans-few {j = zero} z s = omega arith

@@ -1,6 +1,6 @@
 -- Reading a ring that took numbers without gaps: its ends are the first held number's stamp and the newest's; a complete column gives a point for each
 -- held number in the range, ascending; a column without a value gives none. Assumes nothing.
-use Prim.Native.Nat.{ℕ, zero, suc, _+_, _-_, _*_, _%_, _≤_, _<_, max, min}
+use Prim.Native.Nat.{ℕ, zero, suc, _+_, _-_, _*_, _%_, _≤_, _<_, max}
 use native.Mathlib.Nat.{mod-lt, mul-pos, mul-le-mul-right}
 use native.Mathlib.Omega.{arith}
 use native.Mathlib.Decide.{decLt}
@@ -176,11 +176,6 @@ module _ {r : Ring} {n m d a e : ℕ} (st : State r n m d a e) (pa : 0 < a) (c :
       let l : (a ≤ firstHeld n a e) × (firstHeld n a e ≤ a + e) = unfold firstHeld in (omega arith, omega arith) in
       reader-points r (st .slab-is .sound) c 0 hi hc
       ∙ points-range X col (λ q x y. num q (omega (arith, l .0)) y) (range-all d hi (firstHeld n a e) (a + e) (l .1) top)
-
--- as many as the ring took, or has slots
-pub held-count : (n a e : ℕ) → a + e - firstHeld n a e ≡ min e n
-unfolding firstHeld
-held-count n a e = omega arith
 
 -- ---- the ends
 

@@ -6,7 +6,7 @@ use native.Mathlib.Omega.{arith}
 use native.Mathlib.Decide.{decLt, ℕ-discrete}
 use mathlib.Core.Path.{_≡_, refl, ap, _∙_}
 use mathlib.Core.Logic.{_≢_}
-use mathlib.Core.Bool.{Bool, true, false, _&&_, _||_, cond, and-false}
+use mathlib.Core.Bool.{Bool, true, false, _&&_, _||_, cond}
 use mathlib.Core.List.{List, [], _∷_}
 use lib.Dec.{leb, ltb, eqb}
 use lib.ListN.{length}
@@ -32,12 +32,6 @@ setCells C i (e ∷ es) = setCells (setCell C i (e .column) (e .value)) i es
 pub set-other : (C : ℕ → ℕ → ℕ) (i c v c' : ℕ) → c' ≢ c → (j : ℕ) → setCell C i c v c' j ≡ C c' j
 unfolding setCell
 set-other C i c v c' ne j = rw (no-eq c' c ne)
-
--- and so do the cells of another slot
-pub sets-elsewhere : (es : List ColumnValue) (C : ℕ → ℕ → ℕ) (i c j : ℕ) → j ≢ i → setCells C i es c j ≡ C c j
-unfolding setCells
-sets-elsewhere [] C i c j ne = refl
-sets-elsewhere (e ∷ es) C i c j ne = sets-elsewhere es (setCell C i (e .column) (e .value)) i c j ne ∙ unfold setCell in (rw (no-eq j i ne, and-false (eqb c (e .column))))
 
 -- columns below m, and 64-bit values
 abbrev pub Fit : ℕ → List ColumnValue → Type 0

@@ -7,7 +7,7 @@ use mathlib.Core.Path.{_≡_, refl, sym, ap, _∙_}
 use mathlib.Core.List.{List, [], _∷_, _++_}
 use lib.ListN.{length, set, replicate, length-append, length-replicate}
 use Rattle.model.specs.Bytes.{bytes, splice, put}
-use Rattle.model.specs.Layout.{stampsAt, stampsBehind, slabLength, columnAt, columnBehind, stampsBehind, directory, freshHead, freshSlab, copies, freshValue}
+use Rattle.model.specs.Layout.{stampsAt, stampsBehind, slabLength, columnAt, columnBehind, directory, freshHead, freshSlab, copies, freshValue}
 use Rattle.laws.specs.Bytes.{splice-nil, splice-cons, splice-append, splice-whole, grow, length-bytes}
 
 -- ---- fills, one turn

@@ -1,11 +1,12 @@
 -- For each clause of the third demand's supposition a plan or a list of calls that breaks it, and is refused by it; and some that meet it. By computation.
 -- Assumes nothing.
-use Prim.Native.Nat.{ℕ}
+use Prim.Native.Nat.{ℕ, zero, suc, _+_, _*_, _^_}
 use mathlib.Core.Path.{_≡_, refl}
 use mathlib.Core.Bool.{Bool, true, false}
-use mathlib.Core.List.{List, [], _∷_}
-use lib.ListN.{replicate}
-use Rattle.model.specs.Store.{Call, recordCall, consolidateCall, openCall}
+use mathlib.Core.List.{List, [], _∷_, _++_, map}
+use lib.ListN.{length, replicate}
+use Rattle.model.specs.declared.Row.{Row}
+use Rattle.model.specs.Store.{Call, recordCall, batchCall, consolidateCall, openCall}
 use Rattle.demand.specs.Demand.{Situation, suited, supposed, history}
 use Rattle.model.specs.Cases.{tier, plan, num}
 use Rattle.demand.specs.Instance.{Instance-defs, both}

@@ -1,6 +1,6 @@
 -- What the request 2026-01 asks and the promise does not need here: for each a list of calls, or a plan, that breaks that alone, with the promise kept. The
 -- theorem supposes it, since the request does. By computation. Assumes nothing.
-use Prim.Native.Nat.{ℕ}
+use Prim.Native.Nat.{ℕ, zero, suc}
 use mathlib.Core.Path.{_≡_, refl}
 use mathlib.Core.Bool.{Bool, true, false, not, _&&_}
 use mathlib.Core.List.{List, [], _∷_, map}
@@ -8,7 +8,7 @@ use lib.ListN.{replicate}
 use lib.Dec.{T}
 use Rattle.model.specs.declared.Row.{Row}
 use Rattle.model.specs.Image.{rows}
-use Rattle.model.specs.Store.{recordCall, consolidateCall}
+use Rattle.model.specs.Store.{Call, recordCall, consolidateCall}
 use Rattle.demand.specs.Demand.{each, suited, Situation, samples, answers, tierInterval, due}
 use Rattle.model.specs.Cases.{tier, num}
 use Rattle.supposition.specs.Needed.{Needed-defs, clauses, conj, kept, on, off, small, third, allBut}

@@ -1,10 +1,11 @@
 -- The third demand's statement, computed on a story: what is due and promised there, and what the statement says of it. Assumes nothing.
 use Prim.Native.Nat.{ℕ, _<_}
 use mathlib.Core.Path.{_≡_, refl}
-use mathlib.Core.Bool.{true, false, _&&_}
+use mathlib.Core.Bool.{Bool, true, false, _&&_}
 use mathlib.Core.List.{List, [], _∷_, map}
 use lib.ListN.{replicate}
 use lib.Dec.{T, lit<}
+use Rattle.model.specs.declared.Row.{Row}
 use Rattle.model.specs.declared.Point.{Point}
 use Rattle.model.specs.Image.{rows, rowCount, schemas, createCheck}
 use Rattle.model.specs.Store.{Call, recordCall, consolidateCall, openCall}

@@ -1,14 +1,17 @@
 -- The third demand's words, computed from short lists: which plans are suited, what is an offset, what the calls did, which windows are due and closed, what is
 -- promised of their points. Assumes nothing.
-use Prim.Native.Nat.{_^_}
+use Prim.Native.Nat.{ℕ, _^_}
 use mathlib.Core.Path.{_≡_, refl}
-use mathlib.Core.Bool.{true, false}
+use mathlib.Core.Bool.{Bool, true, false}
 use mathlib.Core.List.{List, [], _∷_}
 use lib.IntN.{pos}
 use lib.Ieee.{binary64, ofBits}
+use Rattle.model.specs.declared.Row.{Row}
 use Rattle.model.specs.declared.Point.{Point}
-use Rattle.model.specs.Store.{batchCall, consolidateCall}
-use Rattle.demand.specs.Demand.{Demand-defs, Sample, ran, events, eventsOf, samplesIn, suited, supposed, isOffset, newestWindows, isClosed, within, each}
+use Rattle.model.specs.Lent.{Lent}
+use Rattle.model.specs.Record.{Entry}
+use Rattle.model.specs.Store.{Call, batchCall, consolidateCall}
+use Rattle.demand.specs.Demand.{Demand-defs, Sample, Event, ran, events, eventsOf, samplesIn, suited, supposed, isOffset, newestWindows, isClosed, within, each}
 use Rattle.model.specs.Cases.{Cases-defs, tier, num, infinity, fresh}
 use Rattle.demand.specs.Instance.{minus, sample, point}
 

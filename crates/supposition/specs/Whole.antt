@@ -1,7 +1,8 @@
 -- The clauses that Needed breaks one by one are, with the first stamp above 0, the whole of the supposition. Assumes nothing.
-use Prim.Native.Nat.{_%_}
+use Prim.Native.Nat.{ℕ, _%_}
 use mathlib.Core.Path.{_≡_, refl}
 use mathlib.Core.Bool.{Bool, true, false, _&&_}
+use mathlib.Core.List.{List, [], _∷_}
 use lib.Dec.{ltb, eqb}
 use Rattle.demand.specs.Demand.{Sample, samplesIn, firstOf, ascending, all, isOffset, gapless, ticks, scheduled, supposed, Situation, finest, coarsest, history}
 use Rattle.sample_theory.specs.Lists.{all-three}

@@ -31,7 +31,10 @@ mul-result-7 c = search needs
 
 returns : tie.Need-returns
 unfolding le
-returns c = let a = c .args in joined-le (a .b0) 8 (a .b1 ∷ a .b2 ∷ a .b3 ∷ a .b4 ∷ a .b5 ∷ a .b6 ∷ a .b7 ∷ []) (omega arith) (omega arith, (omega arith, (omega arith, (omega arith, (omega arith, (omega arith, (omega arith, tt))))))) ∙ omega arith
+returns c =
+    let a = c .args in
+    joined-le (a .b0) 8 (a .b1 ∷ a .b2 ∷ a .b3 ∷ a .b4 ∷ a .b5 ∷ a .b6 ∷ a .b7 ∷ []) (omega arith)
+    (omega arith, (omega arith, (omega arith, (omega arith, (omega arith, (omega arith, (omega arith, tt))))))) ∙ omega arith
 
 pub join8-spec : {M : Type 1} → statement M
 join8-spec =

@@ -17,7 +17,11 @@ hand-answer-requires : tie.Need-hand-answer-requires
 hand-answer-requires c κs = tt
 
 same-length : tie.Need-same-length
-same-length c = c .before .before .before .before .before .before .before .before .before .carry-all .kept .0 ∙ c .before .before .before .before .before .before .before .before .before .before .before .before .before .before .create .kept .1 .0
+same-length c =
+    let answered = c .before .before .before .before .before in
+    let carried = answered .before .before .before .before in
+    let made = carried .before .before .before .before .before in
+    carried .carry-all .kept .0 ∙ made .create .kept .1 .0
 
 same-length-2 : tie.Need-same-length-2
 same-length-2 c = c .before .before .hand-answer .kept .1 .1 .0
