@@ -34,6 +34,17 @@ bit-at (suc k) x (suc i) h = rw (bit-at k (x / 2) i (omega arith), div-div-eq-di
 
 -- ---- each undoes the other
 
+bit-of-rest : (r : ℕ) → r < 2 → bitOf (eqb r 1) ≡ r
+bit-of-rest zero h = refl
+bit-of-rest (suc zero) h = refl
+bit-of-rest (suc (suc r)) h = absurd (omega arith)
+
+pub number-bits : (k x : ℕ) → x < 2 ^ k → number (bits k x) ≡ x
+unfolding bits number
+number-bits zero x h = omega (arith, pow-zero 2)
+number-bits (suc k) x h =
+    rw (bit-of-rest (x % 2) (omega arith), number-bits k (x / 2) (omega (arith, pow-suc 2 k))) (omega arith)
+
 rest-of-bit : (b : Bool) → eqb (bitOf b % 2) 1 ≡ b
 rest-of-bit true = refl
 rest-of-bit false = refl

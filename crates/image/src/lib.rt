@@ -1,5 +1,5 @@
 // The checks of an image and of a plan, in document 01's order, each as one answer: `check_image` is what opening and every later call begins with.
-// Where it accepts, frame.specs.Good's `good-open` says what holds of the image: its rows, where its slabs stand, that each is sound.
+// Where it accepts, image_theory.specs.Good's `good-open` says what holds of the image: its rows, where its slabs stand, that each is sound.
 ghost use mathlib.Core.Path.{_≡_};
 ghost use mathlib.Core.Bool.{true};
 ghost use Prim.Native.Nat.{_+_, _*_, _≤_};
