@@ -1,4 +1,4 @@
-//! The proved library, through librondo.a (c-edge/include/rondo.h).
+//! The proved library, through librondo.a (c/include/rondo.h).
 
 use crate::calls::Answer;
 use crate::plain::{Flags, flags_of, get64};

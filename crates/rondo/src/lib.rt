@@ -1,4 +1,4 @@
-// The calls as programs in C and in Rust link them (c-edge/include/rondo.h): numbers and byte slices alone. The flags are one number, bit i row i's flag, so every
+// The calls as programs in C and in Rust link them (c/include/rondo.h): numbers and byte slices alone. The flags are one number, bit i row i's flag, so every
 // number can be lent. Each answers 0, or document 01's number of its refusal. No caller tests anything first.
 ghost use mathlib.Core.Path.{_≡_};
 ghost use Prim.Native.Nat.{_/_};

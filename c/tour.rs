@@ -3,7 +3,7 @@
 //! tour.c does the same in C and prints the same. The standard library alone.
 
 /// The calls of librondo.a, as include/rondo.h has them.
-mod edge {
+mod rondo {
     #[repr(C)]
     #[derive(Default)]
     pub struct Answer {
@@ -19,7 +19,7 @@ mod edge {
         pub place: [u64; 2],
     }
 
-    #[link(name = "edge", kind = "static")]
+    #[link(name = "rondo", kind = "static")]
     unsafe extern "C" {
         pub fn rondo_image_size(plan: *const u8, plan_len: usize, size: &mut u64) -> u32;
         pub fn rondo_create(plan: *const u8, plan_len: usize, image: *mut u8, image_len: usize, flags: &mut u32) -> u32;
