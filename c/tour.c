@@ -13,15 +13,15 @@
 
 static void check(const char *what, uint32_t answer) {
     if (answer == RONDO_ACCEPTED) return;
-    printf("%s: refused, %" PRIu32 "\n", what, answer);
+    printf("%s: refused, %" PRIu32 ", %s: %s\n", what, answer, rondo_refusal_name(answer), rondo_refusal_words(answer));
     exit(1);
 }
 
-static void show(const uint8_t *image, struct rondo_answer *answer) {
+static void show(const uint8_t *image, size_t size, struct rondo_answer *answer) {
     struct rondo_point point;
     uint64_t n = 0;
     double first = 0, last = 0, sum = 0;
-    while (rondo_next_point(image, answer, &point)) {
+    while (rondo_next_point(image, size, answer, &point)) {
         last = rondo_double(point.value);
         if (n++ == 0) first = last;
         sum += last;
@@ -32,13 +32,13 @@ static void show(const uint8_t *image, struct rondo_answer *answer) {
 }
 
 /* The same reader, sixteen points a call. */
-static void show_sixteen(const uint8_t *image, struct rondo_answer *answer) {
+static void show_sixteen(const uint8_t *image, size_t size, struct rondo_answer *answer) {
     struct rondo_point points[16];
     uint64_t calls = 0, n = 0;
     double sum = 0;
     size_t got;
     do {
-        got = rondo_read_points(image, answer, points, 16);
+        got = rondo_read_points(image, size, answer, points, 16);
         calls++;
         for (size_t i = 0; i < got; i++) sum += rondo_double(points[i].value);
         n += got;
@@ -77,18 +77,18 @@ int main(void) {
             flags = 0;
             check("open", rondo_open(image, size, &flags));
             check("query", rondo_query(image, size, flags, 0, 1, 0, 0, UINT64_MAX, &answer));
-            show(image, &answer);
+            show(image, size, &answer);
         }
     }
 
     for (uint32_t tier = 0; tier < 3; tier++) {
         check("query", rondo_query(image, size, flags, 0, 1, tier, 0, UINT64_MAX, &answer));
-        show(image, &answer);
+        show(image, size, &answer);
     }
     check("query_auto", rondo_query_auto(image, size, flags, 0, 0, 3600 * SECOND, 7200 * SECOND, &answer));
-    show(image, &answer);
+    show(image, size, &answer);
     check("query_auto", rondo_query_auto(image, size, flags, 0, 1, 3600 * SECOND, 7200 * SECOND, &answer));
-    show_sixteen(image, &answer);
+    show_sixteen(image, size, &answer);
 
     printf("refused: value %" PRIu32 ", stamp %" PRIu32 ", column %" PRIu32 ", tier %" PRIu32 ", range %" PRIu32 "\n",
            rondo_record(image, size, &flags, 0, 0, rondo_bits(1 / 0.0), 1),
@@ -102,7 +102,7 @@ int main(void) {
     check("open", rondo_open(image, size, &again));
     printf("flags %" PRIu32 ", opened again %" PRIu32 "\n", flags, again);
     check("query", rondo_query(image, size, again, 0, 1, 0, 0, UINT64_MAX, &answer));
-    show(image, &answer);
+    show(image, size, &answer);
     image[0] ^= 1;
     printf("damaged: %" PRIu32 "\n", rondo_open(image, size, &again));
     free(image);

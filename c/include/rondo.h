@@ -34,6 +34,37 @@
 extern "C" {
 #endif
 
+/* ---- versions and limits ---- */
+
+/* These calls. A call, an answer or a struct that changes for a caller raises MAJOR, one that is added MINOR. */
+#define RONDO_VERSION_MAJOR 1
+#define RONDO_VERSION_MINOR 0
+#define RONDO_VERSION_PATCH 0
+#define RONDO_VERSION_STRING "1.0.0"
+
+/* The image's bytes: the number in an image's header. Others are refused with 1. */
+#define RONDO_IMAGE_VERSION 1
+
+#define RONDO_MAX_SCHEMAS 8u
+#define RONDO_MAX_ROWS 32u                          /* tiers of all schemas */
+#define RONDO_MAX_SLOTS 1000000000u                 /* of a ring: retention / interval */
+#define RONDO_MAX_IMAGE_SIZE (UINT64_C(1) << 40)    /* bytes */
+#define RONDO_TIME_LIMIT (UINT64_C(1) << 63)        /* ns: stamps, intervals and retentions are below it */
+
+#define RONDO_HEADER_SIZE 32u   /* bytes: an image's or a plan's header */
+#define RONDO_ROW_SIZE 64u      /* a row of it */
+#define RONDO_ENTRY_SIZE 16u    /* a batch's entry: schema, column, value (rondo_put_entry) */
+
+/* The bytes of a plan, and of the head of an image. */
+#define RONDO_PLAN_SIZE(rows) (RONDO_HEADER_SIZE + RONDO_ROW_SIZE * (size_t)(rows))
+
+/* The bytes of a ring. An image is its plan and the ring of each row, so a static block can be sized. */
+#define RONDO_RING_SIZE(slots, series) \
+    (64 + 4 * (size_t)(series) + 8 * (size_t)(slots) * (1 + (size_t)(series)))
+
+/* The most bytes of stack that a call takes, as measured: see "What it asks of a machine". */
+#define RONDO_STACK_SIZE 768u
+
 /* ---- answers ---- */
 
 enum rondo_answer_number {
@@ -56,6 +87,57 @@ enum rondo_answer_number {
     RONDO_NO_CONSOLIDATION_FUNCTION = 16 /* a coarser tier has function 0 */
 };
 
+/* How many answers there are, 0 among them. */
+#define RONDO_ANSWERS 17u
+
+/* An answer's name; "Unknown" for a number that is none. In the caller's code, not in the library. */
+static inline const char *rondo_refusal_name(uint32_t number) {
+    static const char *const names[RONDO_ANSWERS] = {
+        "Accepted",
+        "BadImage",
+        "NoTiers",
+        "InvalidMaxSeries",
+        "InvalidTierConfig",
+        "TooManySlots",
+        "TiersNotOrdered",
+        "ConsolidationOnHighestTier",
+        "LayoutTooLarge",
+        "ShortBuffer",
+        "CorruptedSlab",
+        "InvalidHandle",
+        "InvalidValue",
+        "InvalidTimestamp",
+        "InvalidTier",
+        "InvalidTimeRange",
+        "NoConsolidationFunction",
+    };
+    return number < RONDO_ANSWERS ? names[number] : "Unknown";
+}
+
+/* An answer in words, for a person. */
+static inline const char *rondo_refusal_words(uint32_t number) {
+    static const char *const words[RONDO_ANSWERS] = {
+        "the call was carried out",
+        "the table of contents is damaged",
+        "a schema has no tier",
+        "a schema must have at least one series",
+        "a tier's interval and retention must be above 0 and below 2^63 ns, and the retention at least the interval",
+        "a tier would have more than 1000000000 slots",
+        "each tier's interval must be longer than that of the tier before it",
+        "the first tier of a schema takes no function, as samples are recorded there",
+        "the image would be longer than 2^40 bytes",
+        "the image does not fit into the room for it",
+        "a slab's header does not suit its row, or a stamp in it is 2^63 ns or more",
+        "there is no such schema, or no such column in it",
+        "a value must not be infinite",
+        "a stamp must be above 0 and below 2^63 ns",
+        "the schema has no such tier",
+        "a range must start before it ends",
+        "a coarser tier has no function to make it from the finer one",
+    };
+    return number < RONDO_ANSWERS ? words[number] : "no refusal has this number";
+}
+
 /* The functions of a coarser tier. */
 enum rondo_function {
     RONDO_NONE = 0, RONDO_AVERAGE = 1, RONDO_MIN = 2, RONDO_MAX = 3,
@@ -66,14 +148,9 @@ enum rondo_function {
 
 /*
  * A plan is the head of an image: RONDO_PLAN_SIZE(rows) bytes, written by rondo_put_plan and then
- * rondo_put_row for each row, by schema and then by tier, finest first. At most 8 schemas and 32
- * rows. Rows of a schema agree in series and hash; the hash is yours to choose.
+ * rondo_put_row for each row, by schema and then by tier, finest first. At most RONDO_MAX_SCHEMAS
+ * and RONDO_MAX_ROWS. Rows of a schema agree in series and hash; the hash is yours to choose.
  */
-#define RONDO_PLAN_SIZE(rows) (32 + 64 * (size_t)(rows))
-
-/* A batch's entry: schema, column, value. Write them with rondo_put_entry. */
-#define RONDO_ENTRY_SIZE 16
-
 static inline void rondo_put_number(uint8_t *at, unsigned bytes, uint64_t x) {
     for (unsigned i = 0; i < bytes; i++, x >>= 8) at[i] = (uint8_t)x;
 }
@@ -81,7 +158,7 @@ static inline void rondo_put_number(uint8_t *at, unsigned bytes, uint64_t x) {
 static inline void rondo_put_plan(uint8_t *plan, uint32_t schemas, uint32_t rows) {
     memset(plan, 0, RONDO_PLAN_SIZE(rows));
     memcpy(plan, "RSTO", 4);
-    rondo_put_number(plan + 4, 4, 1);
+    rondo_put_number(plan + 4, 4, RONDO_IMAGE_VERSION);
     rondo_put_number(plan + 8, 4, schemas);
     rondo_put_number(plan + 12, 4, rows);
 }
@@ -207,9 +284,21 @@ uint32_t rondo_next(const uint8_t *slab, size_t slab_len, uint32_t column,
                     uint64_t start, uint64_t end,
                     struct rondo_place *place, struct rondo_point *point);
 
-/* The next point of an answer, from the image that it was made from. */
-static inline uint32_t rondo_next_point(const uint8_t *image, struct rondo_answer *answer,
-                                        struct rondo_point *point) {
+/* Whether an answer names bytes of an image of this length. An answer that a query made of it does. */
+static inline int rondo_answer_fits(const struct rondo_answer *answer, size_t image_len) {
+    return answer->from <= answer->to && answer->to <= image_len && answer->column <= UINT32_MAX;
+}
+
+/*
+ * The next point of an answer, from the image that it was made from. Any answer may be handed in: one
+ * that does not fit the image is at its end, and nothing outside the image is read.
+ */
+static inline uint32_t rondo_next_point(const uint8_t *image, size_t image_len,
+                                        struct rondo_answer *answer, struct rondo_point *point) {
+    if (!rondo_answer_fits(answer, image_len)) {
+        answer->place.left = 0;
+        return 0;
+    }
     return rondo_next(image + answer->from, (size_t)(answer->to - answer->from),
                       (uint32_t)answer->column, answer->start, answer->end,
                       &answer->place, point);
@@ -225,9 +314,14 @@ size_t rondo_read(const uint8_t *slab, size_t slab_len, uint32_t column,
                   uint64_t start, uint64_t end,
                   struct rondo_place *place, uint64_t *words, size_t words_len);
 
-/* The next points of an answer, at most `room`, from the image that it was made from. */
-static inline size_t rondo_read_points(const uint8_t *image, struct rondo_answer *answer,
+/* The next points of an answer, at most `room`, with the same test. */
+static inline size_t rondo_read_points(const uint8_t *image, size_t image_len,
+                                       struct rondo_answer *answer,
                                        struct rondo_point *points, size_t room) {
+    if (!rondo_answer_fits(answer, image_len)) {
+        answer->place.left = 0;
+        return 0;
+    }
     return rondo_read(image + answer->from, (size_t)(answer->to - answer->from),
                       (uint32_t)answer->column, answer->start, answer->end,
                       &answer->place, (uint64_t *)points, 2 * room);
