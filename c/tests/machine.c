@@ -1,0 +1,141 @@
+/*
+ * What include/rondo.h says of limits, early stamps, alignment and the floating-point mode, tried on the library.
+ * A line for each; ends with 1 if one does not hold.
+ */
+#include <stdio.h>
+#include <stdlib.h>
+#include <xmmintrin.h>
+
+#include "rondo.h"
+
+#define SECOND UINT64_C(1000000000)
+
+static int faults;
+
+static void hold(const char *what, int good) {
+    if (good) return;
+    printf("does not hold: %s\n", what);
+    faults++;
+}
+
+/* The answer of a plan of so many schemas, each of so many tiers, 2, 4, 8, .. ns for so many slots. */
+static uint32_t size_of(uint32_t schemas, uint32_t tiers, uint64_t slots, uint32_t series, uint64_t *size) {
+    static uint8_t plan[RONDO_PLAN_SIZE(64)];
+    uint32_t row = 0;
+    rondo_put_plan(plan, schemas, schemas * tiers);
+    for (uint32_t s = 0; s < schemas; s++)
+        for (uint32_t t = 0; t < tiers; t++, row++)
+            rondo_put_row(plan, row, s, t, UINT64_C(2) << t, (UINT64_C(2) << t) * slots, t ? RONDO_AVERAGE : RONDO_NONE, series, s);
+    return rondo_image_size(plan, sizeof plan, size);
+}
+
+static void try_version(void) {
+    char text[40];
+    sprintf(text, "%d.%d.%d", RONDO_VERSION_MAJOR, RONDO_VERSION_MINOR, RONDO_VERSION_PATCH);
+    hold("the version as text", strcmp(text, RONDO_VERSION_STRING) == 0);
+}
+
+static void try_limits(void) {
+    uint64_t size = 0;
+    uint32_t most = 999; /* series: 999 + 1 words a slot */
+    hold("32 rows", size_of(1, RONDO_MAX_ROWS, 3, 1, &size) == 0);
+    hold("33 rows are refused", size_of(1, RONDO_MAX_ROWS + 1, 3, 1, &size) == RONDO_BAD_IMAGE);
+    hold("8 schemas", size_of(RONDO_MAX_SCHEMAS, 4, 3, 2, &size) == 0);
+    hold("the size of 8 schemas", size == RONDO_PLAN_SIZE(32) + 32 * RONDO_RING_SIZE(3, 2));
+    hold("9 schemas are refused", size_of(RONDO_MAX_SCHEMAS + 1, 1, 3, 1, &size) == RONDO_BAD_IMAGE);
+    hold("10^9 slots", size_of(1, 1, RONDO_MAX_SLOTS, 1, &size) == 0);
+    hold("the size of 10^9 slots", size == RONDO_PLAN_SIZE(1) + RONDO_RING_SIZE(RONDO_MAX_SLOTS, 1));
+    hold("10^9 + 1 slots are refused", size_of(1, 1, RONDO_MAX_SLOTS + UINT64_C(1), 1, &size) == RONDO_TOO_MANY_SLOTS);
+    uint64_t fit = (RONDO_MAX_IMAGE_SIZE - RONDO_PLAN_SIZE(1) - 64 - 4 * most) / (8 * (1 + most));
+    hold("2^40 bytes", size_of(1, 1, fit, most, &size) == 0 && size <= RONDO_MAX_IMAGE_SIZE);
+    hold("above 2^40 bytes is refused", size_of(1, 1, fit + 1, most, &size) == RONDO_LAYOUT_TOO_LARGE);
+    printf("machine: limits tried\n");
+}
+
+/* A store of two tiers, 1 s for 16 s and 4 s for 16 s, two series: bytes, and its size. */
+static size_t make(uint8_t *plan, uint8_t *image, uint32_t *flags) {
+    rondo_put_plan(plan, 1, 2);
+    rondo_put_row(plan, 0, 0, 0, SECOND, 16 * SECOND, RONDO_NONE, 2, 7);
+    rondo_put_row(plan, 1, 0, 1, 4 * SECOND, 16 * SECOND, RONDO_AVERAGE, 2, 7);
+    *flags = 0;
+    uint64_t size = RONDO_PLAN_SIZE(2) + 2 * RONDO_RING_SIZE(16, 2);
+    hold("create", rondo_create(plan, RONDO_PLAN_SIZE(2), image, size, flags) == 0);
+    return size;
+}
+
+#define ROOM 2048
+
+static void try_early(void) {
+    static uint8_t plan[RONDO_PLAN_SIZE(2)], image[ROOM];
+    uint32_t flags;
+    uint64_t count = 0, s = 1, refused = 0;
+    size_t size = make(plan, image, &flags);
+    hold("the greatest stamp", rondo_record(image, size, &flags, 0, 0, 0, RONDO_TIME_LIMIT) == RONDO_INVALID_TIMESTAMP);
+    for (; s < 24; s++) {
+        hold("record", rondo_record(image, size, &flags, 0, 0, 0, s * SECOND) == 0);
+        uint32_t answer = rondo_consolidate(image, size, &flags, &count);
+        if (answer == RONDO_INVALID_TIMESTAMP) refused = s;
+        else if (answer) hold("a run", 0);
+        if (s == 1) hold("the first run is refused with 13", answer == RONDO_INVALID_TIMESTAMP);
+    }
+    hold("runs are refused until the early samples have left the ring", refused == 18);
+    printf("machine: stamps from 1 s on with a coarsest interval of 4 s and 16 slots: runs refused with 13 up to %u s\n", (unsigned)refused);
+}
+
+/* The same calls at every offset from a multiple of 16. */
+static void try_alignment(void) {
+    static uint8_t plans[512], images[16][ROOM + 32], entries[64];
+    size_t size = 0;
+    for (size_t o = 0; o < 16; o++) {
+        uint8_t *image = images[o] + o, *entry = entries + 15 - o;
+        uint32_t flags;
+        uint64_t count = 0;
+        size = make(plans + (o * 7) % 16, image, &flags);
+        for (uint64_t s = 4; s < 40; s++) {
+            rondo_put_entry(entry, 0, 0, rondo_bits((double)s));
+            rondo_put_entry(entry + 16, 0, 1, rondo_bits(0.1 * (double)s));
+            hold("batch", rondo_record_batch(image, size, &flags, entry, 32, s * SECOND) == 0);
+        }
+        hold("run", rondo_consolidate(image, size, &flags, &count) == 0 && count > 0);
+        hold("the same bytes at every address", memcmp(image, images[0], size) == 0);
+    }
+    printf("machine: the same %u bytes at 16 addresses\n", (unsigned)size);
+}
+
+/* The mean of three values with this mode register. */
+static uint64_t mean(unsigned mode, const double *values) {
+    static uint8_t plan[RONDO_PLAN_SIZE(2)], image[ROOM];
+    uint32_t flags;
+    uint64_t count = 0;
+    size_t size = make(plan, image, &flags);
+    struct rondo_answer answer;
+    struct rondo_point point = { 0, 0 };
+    for (uint64_t i = 0; i < 3; i++) hold("record", rondo_record(image, size, &flags, 0, 0, rondo_bits(values[i]), (4 + i) * SECOND) == 0);
+    unsigned was = _mm_getcsr();
+    _mm_setcsr(mode);
+    uint32_t run = rondo_consolidate(image, size, &flags, &count);
+    _mm_setcsr(was);
+    hold("run", run == 0 && count == 1);
+    hold("query", rondo_query(image, size, flags, 0, 0, 1, 0, UINT64_MAX, &answer) == 0);
+    hold("point", rondo_next_point(image, size, &answer, &point) == 1);
+    return point.value;
+}
+
+static void try_modes(void) {
+    static const double small[] = { 3e-320, 6e-320, 9e-320 }, third[] = { 1, 0, 0 };
+    const unsigned plain = 0x1f80, flush = plain | 0x8000, up = plain | 0x4000;
+    double kept = rondo_double(mean(plain, small));
+    hold("the mean of small values", kept == 6e-320);
+    hold("it is 0 with flush to zero", mean(flush, small) == 0);
+    hold("1 / 3 is another number when rounded upwards", mean(up, third) == mean(plain, third) + 1);
+    printf("machine: the mean of 3e-320, 6e-320, 9e-320 is %g, and %g with flush to zero\n", kept, rondo_double(mean(flush, small)));
+}
+
+int main(void) {
+    try_version();
+    try_limits();
+    try_early();
+    try_alignment();
+    try_modes();
+    return faults != 0;
+}
