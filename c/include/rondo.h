@@ -20,8 +20,34 @@
  * header. So the fast ways are those that do much in a call: a batch for the values of one stamp
  * (rondo_record_batch), and many points a call (rondo_read).
  *
- * Link librondo.a (x86-64 Linux). Each function here has the contract that is proved of it in
- * crates/rondo/src/lib.rt.
+ * Stamps: let time begin at the coarsest interval or later. An earlier sample's window would start at
+ * 0, so the next run is refused with 13, and each after it until the finer ring has lost the sample.
+ *
+ * What it asks of a machine (make check tries each of these):
+ * - x86-64 with the System V calling convention, as on Linux; SSE2 and nothing newer.
+ * - memset: the one symbol that librondo.a needs (nm -u).
+ * - Code: 17,970 bytes with constants, and no data (size librondo.a; the build of 2026-11-17).
+ * - Stack: at most RONDO_STACK_SIZE bytes a call, beside memset's own. That build takes 716, the return
+ *   address among them: the deepest path of each call, added up from the disassembly (c/tests/stack.awk);
+ *   544 is the most that the single-stepped calls took. Up to 4 of them lie below the stack pointer, as
+ *   the convention allows: an interrupt on the same stack must leave the 128 bytes below it.
+ * - Alignment: none is asked of images, plans and entries; numbers and structs have that of C.
+ * - Floating point: averages and sums are computed in the mode that the caller has set. Round to nearest
+ *   and do not flush to zero: with flush to zero the mean of 3e-320, 6e-320, 9e-320 is 0.
+ *
+ * Calls cut short, as by a reset: nothing is proved of them. c/tests/step.c single-steps 63 records, 56
+ * batches and 14 runs and looks at the image after each instruction that changed it. In that build:
+ * - rondo_open answered 0 on each of the 694 images, and no other answer occurred.
+ * - After it the same call, made again, left every byte and reading as if it had not been cut short.
+ * - Not made again: a slot may have its new stamp with the value that stood there before (219 images); a
+ *   batch or a run may be there in part; a new point may be read before older ones (239 images), which
+ *   two seconds' further records mended in all records and batches. No other point was read.
+ * - rondo_create is not like that: see there.
+ * The stores were seen in the order of the program, each whole. Where a cache stands before the memory
+ * that outlasts the power, flush it after each call.
+ *
+ * Each function here has the contract that is proved of it in crates/rondo/src/lib.rt; what is inline
+ * here is not proved.
  */
 #ifndef RONDO_H
 #define RONDO_H
@@ -62,7 +88,7 @@ extern "C" {
 #define RONDO_RING_SIZE(slots, series) \
     (64 + 4 * (size_t)(series) + 8 * (size_t)(slots) * (1 + (size_t)(series)))
 
-/* The most bytes of stack that a call takes, as measured: see "What it asks of a machine". */
+/* The most bytes of stack that a call takes: "What it asks of a machine". */
 #define RONDO_STACK_SIZE 768u
 
 /* ---- answers ---- */
@@ -205,6 +231,12 @@ uint32_t rondo_image_size(const uint8_t *plan, size_t plan_len, uint64_t *size);
 /*
  * Writes the plan's fresh image at the start of `image`, and makes the flags of its rows 0. Later
  * bytes and flags stay. Refuses 1 to 9.
+ *
+ * Cut short, it may leave an image that opens. Of 364 images in between, over zeros, 0xff, noise and
+ * fresh stores, rondo_open refused 328 (with 1, 2, 3 or 10) and accepted 36, of which 32 were not
+ * finished, and 3 of these gave points that nobody recorded; over a store of the same plan it accepted
+ * all 56, old points among the new. So keep a word beside the image that says that creation has ended, as
+ * c/examples/power_up.c does. Made again, it left the same image from each of them.
  */
 uint32_t rondo_create(const uint8_t *plan, size_t plan_len,
                       uint8_t *image, size_t image_len, uint32_t *flags);
