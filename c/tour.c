@@ -11,13 +11,18 @@
 
 #define SECOND UINT64_C(1000000000)
 
+/* The store: its bytes, their number, the flags. */
+static uint8_t *image;
+static uint64_t size;
+static uint32_t flags;
+
 static void check(const char *what, uint32_t answer) {
     if (answer == RONDO_ACCEPTED) return;
     printf("%s: refused, %" PRIu32 ", %s: %s\n", what, answer, rondo_refusal_name(answer), rondo_refusal_words(answer));
     exit(1);
 }
 
-static void show(const uint8_t *image, size_t size, struct rondo_answer *answer) {
+static void show(struct rondo_answer *answer) {
     struct rondo_point point;
     uint64_t n = 0;
     double first = 0, last = 0, sum = 0;
@@ -32,7 +37,7 @@ static void show(const uint8_t *image, size_t size, struct rondo_answer *answer)
 }
 
 /* The same reader, sixteen points a call. */
-static void show_sixteen(const uint8_t *image, size_t size, struct rondo_answer *answer) {
+static void show_sixteen(struct rondo_answer *answer) {
     struct rondo_point points[16];
     uint64_t calls = 0, n = 0;
     double sum = 0;
@@ -46,23 +51,23 @@ static void show_sixteen(const uint8_t *image, size_t size, struct rondo_answer 
     printf("sixteen at a time: %" PRIu64 " points in %" PRIu64 " calls, mean %.6f\n", n, calls, n ? sum / (double)n : 0);
 }
 
-int main(void) {
+static void create(void) {
     uint8_t plan[RONDO_PLAN_SIZE(3)];
     rondo_put_plan(plan, 1, 3);
     rondo_put_row(plan, 0, 0, 0, SECOND, 7200 * SECOND, RONDO_NONE, 2, 7);
     rondo_put_row(plan, 1, 0, 1, 60 * SECOND, 86400 * SECOND, RONDO_AVERAGE, 2, 7);
     rondo_put_row(plan, 2, 0, 2, 3600 * SECOND, 2592000 * SECOND, RONDO_AVERAGE, 2, 7);
-
-    uint64_t size = 0, count = 0;
-    uint32_t flags = 0;
-    struct rondo_answer answer;
     check("size", rondo_image_size(plan, sizeof plan, &size));
-    uint8_t *image = malloc(size);
-    if (!image) return 1;
+    image = malloc(size);
+    if (!image) exit(1);
     check("create", rondo_create(plan, sizeof plan, image, size, &flags));
     printf("image of %" PRIu64 " bytes\n", size);
+}
 
-    /* a run after each hour's last second, and one in the middle of a minute and an hour */
+/* Three hours: a run after each hour's last second, and one in the middle of a minute and an hour. */
+static void record(void) {
+    struct rondo_answer answer;
+    uint64_t count = 0;
     for (uint64_t s = 3600; s < 4 * 3600; s++) {
         uint8_t both[2 * RONDO_ENTRY_SIZE];
         rondo_put_entry(both, 0, 0, rondo_bits((double)(s % 60)));
@@ -77,18 +82,21 @@ int main(void) {
             flags = 0;
             check("open", rondo_open(image, size, &flags));
             check("query", rondo_query(image, size, flags, 0, 1, 0, 0, UINT64_MAX, &answer));
-            show(image, size, &answer);
+            show(&answer);
         }
     }
+}
 
+static void ask(void) {
+    struct rondo_answer answer;
     for (uint32_t tier = 0; tier < 3; tier++) {
         check("query", rondo_query(image, size, flags, 0, 1, tier, 0, UINT64_MAX, &answer));
-        show(image, size, &answer);
+        show(&answer);
     }
     check("query_auto", rondo_query_auto(image, size, flags, 0, 0, 3600 * SECOND, 7200 * SECOND, &answer));
-    show(image, size, &answer);
+    show(&answer);
     check("query_auto", rondo_query_auto(image, size, flags, 0, 1, 3600 * SECOND, 7200 * SECOND, &answer));
-    show_sixteen(image, size, &answer);
+    show_sixteen(&answer);
 
     printf("refused: value %" PRIu32 ", stamp %" PRIu32 ", column %" PRIu32 ", tier %" PRIu32 ", range %" PRIu32 "\n",
            rondo_record(image, size, &flags, 0, 0, rondo_bits(1 / 0.0), 1),
@@ -96,15 +104,25 @@ int main(void) {
            rondo_record(image, size, &flags, 0, 2, 0, 1),
            rondo_query(image, size, flags, 0, 0, 3, 5, 5, &answer),
            rondo_query(image, size, flags, 0, 0, 0, 5, 5, &answer));
+}
 
-    /* the cursor stands in the last slot: none is above it, and the same points are read from slot 0 on */
+/* The cursor stands in the last slot: none is above it, and the same points are read from slot 0 on. */
+static void open_again(void) {
+    struct rondo_answer answer;
     uint32_t again = 0;
     check("open", rondo_open(image, size, &again));
     printf("flags %" PRIu32 ", opened again %" PRIu32 "\n", flags, again);
     check("query", rondo_query(image, size, again, 0, 1, 0, 0, UINT64_MAX, &answer));
-    show(image, size, &answer);
+    show(&answer);
     image[0] ^= 1;
     printf("damaged: %" PRIu32 "\n", rondo_open(image, size, &again));
+}
+
+int main(void) {
+    create();
+    record();
+    ask();
+    open_again();
     free(image);
     return 0;
 }
