@@ -3,7 +3,7 @@
  *
  * A store is one block of bytes, the image: a table of contents, then a ring of slots for each
  * tier. Beside it goes one number, the wrap flags: bit i belongs to row i of the table. Keep the
- * two together, from call to call; the library keeps nothing, allocates nothing and calls nothing.
+ * two together, from call to call; the library keeps nothing, allocates nothing and calls memset alone.
  *
  * Every call may be handed anything: a block of any length with any content, any flags, any
  * numbers. It answers 0 (RONDO_ACCEPTED) or one refusal below, and returns. You test nothing
@@ -11,8 +11,8 @@
  * rondo_consolidate alone keeps what it did before the refusal.
  *
  * You owe what C always asks: a pointer and a length that describe memory of yours (a pointer to
- * no bytes is not null), blocks of one call that do not overlap, and no other thread in them
- * during the call. Stamps are nanoseconds. Values are doubles by their 64-bit pattern:
+ * no bytes is not null), blocks of one call that do not overlap, and nothing else that writes them
+ * during the call (a thread, an interrupt, DMA). Stamps are nanoseconds. Values are doubles by their 64-bit pattern:
  * rondo_bits and rondo_double convert.
  *
  * Opening, both ways to record, both queries and a run check the table and each ring's header again,
@@ -37,11 +37,13 @@
  *
  * Calls cut short, as by a reset: nothing is proved of them. c/tests/step.c single-steps 63 records, 56
  * batches and 14 runs and looks at the image after each instruction that changed it. In that build:
- * - rondo_open answered 0 on each of the 694 images, and no other answer occurred.
+ * - rondo_open answered 0 on each of the 694 images; no other answer occurred. Take the flags from it.
  * - After it the same call, made again, left every byte and reading as if it had not been cut short.
- * - Not made again: a slot may have its new stamp with the value that stood there before (219 images); a
- *   batch or a run may be there in part; a new point may be read before older ones (239 images), which
- *   two seconds' further records mended in all records and batches. No other point was read.
+ * - Not made again, a slot may have its new stamp with the value that stood there before (219 images), and
+ *   keeps it until it is written again; a batch or a run may be there in part. No other point was read.
+ * - A new point may be read before older ones (239 images). Two seconds' further records later the order
+ *   fell no more often than if the record or batch had been made whole, or not at all.
+ * - After a run cut short, two seconds and the next run left the same bytes as after a whole one.
  * - rondo_create is not like that: see there.
  * The stores were seen in the order of the program, each whole. Where a cache stands before the memory
  * that outlasts the power, flush it after each call.

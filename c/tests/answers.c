@@ -26,13 +26,13 @@ static uint8_t *block(size_t len, int at_end) {
 
 static void read_both(const uint8_t *image, size_t len, struct rondo_answer answer) {
     struct rondo_point points[4];
-    struct rondo_answer copy = answer;
-    int fits = rondo_answer_fits(&answer, len);
+    struct rondo_answer copy = answer, good = answer;
+    int fits = answer.from <= answer.to && answer.to <= len && answer.column < UINT64_C(1) << 32;
     size_t got = rondo_read_points(image, len, &copy, points, 4);
     uint32_t one = rondo_next_point(image, len, &answer, points);
     tried += 2;
     handed += one;
-    if ((got != 0) != (one != 0) || (!fits && (got || answer.place.left || copy.place.left))) faults++;
+    if (fits != rondo_answer_fits(&good, len) || (got != 0) != (one != 0) || (!fits && (got || answer.place.left || copy.place.left))) faults++;
 }
 
 static void try_all(const uint8_t *image, size_t len, struct rondo_answer good) {

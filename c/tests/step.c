@@ -44,7 +44,7 @@ struct seen {
     unsigned before, after, points, stale, strange; /* what was read, see sort_reading() */
     unsigned fallen;                                /* read in an order that falls more often than before and after */
     unsigned redone;                                /* the call made again: image and readings as uninterrupted */
-    unsigned healed;                                /* not made again: two seconds later the order is as if made, or not made */
+    unsigned mended;                                /* not made again: see mends() */
     unsigned unfinished;                            /* opened with 0, but its bytes are not the ended call's */
     uint64_t stack;
 };
@@ -142,21 +142,31 @@ static uint32_t open_and_read(struct lent *l, struct readings *r) {
     return answer;
 }
 
-/* Records two seconds more, and says how often the order falls then. */
-static unsigned falls_later(struct lent l, uint64_t stamp) {
-    static struct readings r;
+/* Two seconds more, and after a run another run. */
+static void go_on(struct lent *l, const struct call *c) {
+    static const struct call run = { 2, 0, 0 };
     for (uint64_t i = 1; i < 3; i++) {
-        struct call next = { 1, stamp + i * SECOND, 5 };
-        carry_out(&l, &next);
+        struct call next = { 1, c->stamp + i * SECOND, 5 };
+        carry_out(l, &next);
     }
-    read_all(&l, &r);
-    return falls(&r);
+    if (c->kind == 2) carry_out(l, &run);
 }
 
-/* Whether it then falls no more often than if the call had been made, or had not. */
-static int heals(const struct lent *at, const struct call *c, const struct lent *before, const struct lent *after) {
-    unsigned now = falls_later(*at, c->stamp);
-    return now <= falls_later(*before, c->stamp) || now <= falls_later(*after, c->stamp);
+/*
+ * Whether all is well if the call is not made again: two seconds after a recording the order falls no more often than
+ * if it had been made, or had not; the next run leaves the same bytes.
+ */
+static int mends(struct lent at, const struct call *c, const struct lent *before, const struct lent *after) {
+    static struct readings now, then, later;
+    struct lent was = *before, done = *after;
+    go_on(&at, c);
+    go_on(&was, c);
+    go_on(&done, c);
+    if (c->kind == 2) return memcmp(at.image, done.image, at.len) == 0;
+    read_all(&at, &now);
+    read_all(&was, &then);
+    read_all(&done, &later);
+    return falls(&now) <= falls(&then) || falls(&now) <= falls(&later);
 }
 
 /* Looks at one state: `at` is a copy of what is lent now. */
@@ -172,7 +182,7 @@ static void look(struct seen *s, struct lent *at, const struct call *c,
     if (answer == RONDO_ACCEPTED) {
         sort_reading(s, &now, &then, &later);
         if (memcmp(at->image, after->image, at->len)) s->unfinished++;
-        if (c->kind < 2 && heals(at, c, before, after)) s->healed++;
+        if (c->kind < 3 && mends(*at, c, before, after)) s->mended++;
     }
     carry_out(at, c);
     read_all(at, &again);
@@ -240,14 +250,14 @@ static void put_plan(void) {
 }
 
 /* What include/rondo.h says: every state opens but those of a creation; a call made again ends as it would have. */
-static void hold(const char *what, const struct seen *s, int opens, int in_order) {
-    if (s->states && s->redone == s->states && (!opens || (s->answers[0] == s->states && s->strange == 0)) &&
-        (!in_order || s->healed == s->states)) return;
+static void hold(const char *what, const struct seen *s, int opens) {
+    int again = s->states && s->redone == s->states;
+    if (again && (!opens || (s->answers[0] == s->states && s->strange == 0 && s->mended == s->states))) return;
     printf("%s: a state between is not as rondo.h says\n", what);
     faults++;
 }
 
-static void show(const char *what, const struct seen *s, int opens, int in_order) {
+static void show(const char *what, const struct seen *s, int opens) {
     printf("%s: %u instructions, %u states, opened:", what, s->instructions, s->states);
     for (unsigned i = 0; i < RONDO_ANSWERS; i++)
         if (s->answers[i]) printf(" %u with %u (%s)", s->answers[i], i, rondo_refusal_name(i));
@@ -255,9 +265,9 @@ static void show(const char *what, const struct seen *s, int opens, int in_order
            " a new stamp with an old value %u, other %u; order falls %u\n",
            s->unfinished, s->before, s->after, s->points, s->stale, s->strange, s->fallen);
     printf("    opened and called again, all as uninterrupted: %u; ", s->redone);
-    if (in_order) printf("not again, in order two seconds later: %u; ", s->healed);
+    if (opens) printf("not called again, mended two seconds later: %u; ", s->mended);
     printf("stack %" PRIu64 "\n", s->stack);
-    hold(what, s, opens, in_order);
+    hold(what, s, opens);
 }
 
 /* Creation over zeros, erased flash, a fresh store, one with a damaged header, and noise. */
@@ -285,7 +295,7 @@ int main(void) {
     lent->len = size;
     try_creations(&creation);
     for (uint64_t i = 0; i < 56; i++) {
-        struct call a = { 1, first + i * s, 0.1 * (double)i }, b = { 0, first + i * s + 1, 1e9 + (double)i }, c = { 2, 0, 0 };
+        struct call a = { 1, first + i * s, 0.1 * (double)i }, b = { 0, first + i * s + 1, 1e9 + (double)i }, c = { 2, a.stamp, 0 };
         try_call(i % 2 ? &batch : &record, i % 2 ? a : b);
         try_call(i % 2 ? &record : &batch, i % 2 ? b : a);
         if (i % 8 == 7 || i % 8 == 4) try_call(&run, c);
@@ -295,10 +305,10 @@ int main(void) {
         }
     }
     try_call(&again, create);
-    show("rondo_create", &creation, 0, 0);
-    show("rondo_create over a store of the same plan", &again, 0, 0);
-    show("rondo_record", &record, 1, 1);
-    show("rondo_record_batch", &batch, 1, 1);
-    show("rondo_consolidate", &run, 1, 0);
+    show("rondo_create", &creation, 0);
+    show("rondo_create over a store of the same plan", &again, 0);
+    show("rondo_record", &record, 1);
+    show("rondo_record_batch", &batch, 1);
+    show("rondo_consolidate", &run, 1);
     return faults != 0;
 }
