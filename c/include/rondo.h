@@ -12,8 +12,8 @@
  *
  * You owe what C always asks: a pointer and a length that describe memory of yours (a pointer to
  * no bytes is not null), blocks of one call that do not overlap, and nothing else that writes them
- * during the call (a thread, an interrupt, DMA). Stamps are nanoseconds. Values are doubles by their 64-bit pattern:
- * rondo_bits and rondo_double convert.
+ * during the call (a thread, an interrupt, DMA: it could end in an illegal instruction). Stamps are
+ * nanoseconds. Values are doubles by their 64-bit pattern: rondo_bits and rondo_double convert.
  *
  * Opening, both ways to record, both queries and a run check the table and each ring's header again,
  * some nanoseconds a row, and change nothing before all is good; a reader's step checks its ring's
@@ -37,7 +37,8 @@
  *
  * Calls cut short, as by a reset: nothing is proved of them. c/tests/step.c single-steps 63 records, 56
  * batches and 14 runs and looks at the image after each instruction that changed it. In that build:
- * - rondo_open answered 0 on each of the 694 images; no other answer occurred. Take the flags from it.
+ * - rondo_open answered 0 on each of the 694 images, 561 of them unfinished; no other answer occurred.
+ *   Take the flags from it.
  * - After it the same call, made again, left every byte and reading as if it had not been cut short.
  * - Not made again, a slot may have its new stamp with the value that stood there before (219 images), and
  *   keeps it until it is written again; a batch or a run may be there in part. No other point was read.
@@ -234,11 +235,11 @@ uint32_t rondo_image_size(const uint8_t *plan, size_t plan_len, uint64_t *size);
  * Writes the plan's fresh image at the start of `image`, and makes the flags of its rows 0. Later
  * bytes and flags stay. Refuses 1 to 9.
  *
- * Cut short, it may leave an image that opens. Of 364 images in between, over zeros, 0xff, noise and
- * fresh stores, rondo_open refused 328 (with 1, 2, 3 or 10) and accepted 36, of which 32 were not
- * finished, and 3 of these gave points that nobody recorded; over a store of the same plan it accepted
- * all 56, old points among the new. So keep a word beside the image that says that creation has ended, as
- * c/examples/power_up.c does. Made again, it left the same image from each of them.
+ * Cut short, it may leave an image that opens. Single-stepped with glibc's memset: of 364 images, over
+ * zeros, 0xff, noise and fresh stores, rondo_open refused 328 (with 1, 2, 3 or 10) and accepted 36; 32 of
+ * these were not finished, and 3 gave points that nobody recorded. Over a store of the same plan it
+ * accepted all 56 images, some with a part of the old points. So keep a word beside the image that says
+ * that creation has ended, as c/examples/power_up.c does. Made again, it left the same image from each.
  */
 uint32_t rondo_create(const uint8_t *plan, size_t plan_len,
                       uint8_t *image, size_t image_len, uint32_t *flags);

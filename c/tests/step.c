@@ -284,6 +284,14 @@ static void try_creations(struct seen *s) {
     try_call(s, create);
 }
 
+/* Records, batches and runs together, as include/rondo.h has the numbers. */
+static void sum_up(const struct seen *a, const struct seen *b, const struct seen *c) {
+    printf("step: records, batches and runs: %u images, %u unfinished, %u opened with 0, %u with a new stamp and an old value,"
+           " %u out of order\n",
+           a->states + b->states + c->states, a->unfinished + b->unfinished + c->unfinished,
+           a->answers[0] + b->answers[0] + c->answers[0], a->stale + b->stale + c->stale, a->fallen + b->fallen + c->fallen);
+}
+
 int main(void) {
     static struct seen creation, again, record, batch, run;
     static const struct call create = { 3, 0, 0 };
@@ -310,5 +318,6 @@ int main(void) {
     show("rondo_record", &record, 1);
     show("rondo_record_batch", &batch, 1);
     show("rondo_consolidate", &run, 1);
+    sum_up(&record, &batch, &run);
     return faults != 0;
 }
