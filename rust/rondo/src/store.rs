@@ -1,0 +1,265 @@
+//! The store: an image, and its flags.
+
+use core::fmt;
+
+use crate::calls::{self, Asked};
+use crate::{Plan, QueryResult, Refusal};
+
+/// A series: the schema's number and the column's, both from 0.
+#[derive(Debug, Clone, Copy, PartialEq, Eq, PartialOrd, Ord, Hash)]
+#[repr(C)]
+pub struct SeriesHandle {
+    /// The schema's number in the plan.
+    pub schema: u32,
+    /// The column, below the schema's greatest number of series.
+    pub column: u32,
+}
+
+impl SeriesHandle {
+    /// The handle of a series. Nothing is tested: a call refuses one that is not there ([`Refusal::InvalidHandle`]).
+    pub const fn new(schema: u32, column: u32) -> Self {
+        SeriesHandle { schema, column }
+    }
+}
+
+/// A value of a batch.
+#[derive(Debug, Clone, Copy, PartialEq)]
+#[repr(C)]
+pub struct Entry {
+    /// Which series it is for.
+    pub handle: SeriesHandle,
+    /// The value; NaN is no value.
+    pub value: f64,
+}
+
+impl Entry {
+    /// A value for a series.
+    pub const fn new(handle: SeriesHandle, value: f64) -> Self {
+        Entry { handle, value }
+    }
+}
+
+impl From<(SeriesHandle, f64)> for Entry {
+    fn from((handle, value): (SeriesHandle, f64)) -> Self {
+        Entry { handle, value }
+    }
+}
+
+/// A store in bytes that you lend: the image, and beside it the wrap flags, one bit a tier.
+///
+/// The image may lie anywhere and be longer than the plan needs; what lies past is never touched. Each call checks the image
+/// again, so any bytes may be lent: what is not an image is refused.
+///
+/// The flags are not in the image. Within a `Store` they are kept; when the bytes alone were kept, as over a power cycle,
+/// [`Store::open`] works them out, and all reads as before. [`Store::into_parts`] and [`Store::resume`] carry both.
+pub struct Store<'a> {
+    image: &'a mut [u8],
+    flags: u32,
+}
+
+impl<'a> Store<'a> {
+    /// Writes a plan's fresh image at the start of `image`.
+    ///
+    /// ```
+    /// use rondo::{Plan, Refusal, Store, TierConfig};
+    ///
+    /// let plan = Plan::new().schema(1, 7, &[TierConfig::from_nanos(10, 40, None)]);
+    /// assert_eq!(plan.image_size(), Ok(228));
+    /// let mut image = [0; 228];
+    /// let store = Store::create(&plan, &mut image)?;
+    /// assert_eq!(store.flags(), 0);
+    /// assert_eq!(Store::create(&plan, &mut image[..227]).unwrap_err(), Refusal::ShortBuffer);
+    /// # Ok::<(), Refusal>(())
+    /// ```
+    ///
+    /// # Errors
+    ///
+    /// Those of [`Plan::image_size`], then [`Refusal::ShortBuffer`]. The bytes then stay as they were.
+    pub fn create(plan: &Plan, image: &'a mut [u8]) -> Result<Self, Refusal> {
+        let mut flags = 0;
+        calls::create(plan.as_bytes(), image, &mut flags)?;
+        Ok(Store { image, flags })
+    }
+
+    /// Opens an image whose flags were not kept: checks it, and works the flags out from the stamps above each ring's cursor.
+    /// What was recorded through this crate is then read as before.
+    ///
+    /// ```
+    /// # use rondo::{Plan, SeriesHandle, Store, TierConfig};
+    /// # let plan = Plan::new().schema(1, 7, &[TierConfig::from_nanos(10, 40, None)]);
+    /// # let mut image = [0; 228];
+    /// # let handle = SeriesHandle::new(0, 0);
+    /// let mut store = Store::create(&plan, &mut image)?;
+    /// store.record(handle, 1.5, 20)?;
+    /// // off, and on again: the bytes are there, the flags are not
+    /// let store = Store::open(&mut image)?;
+    /// assert!(store.query(handle, 0, 0, u64::MAX)?.points().eq([(20, 1.5)]));
+    /// # Ok::<(), rondo::Refusal>(())
+    /// ```
+    ///
+    /// # Errors
+    ///
+    /// Those of [`Plan::image_size`], [`Refusal::BadImage`] also for bytes that end before the image does, then
+    /// [`Refusal::CorruptedSlab`].
+    pub fn open(image: &'a mut [u8]) -> Result<Self, Refusal> {
+        let mut flags = 0;
+        calls::open(image, &mut flags)?;
+        Ok(Store { image, flags })
+    }
+
+    /// Takes an image up again with the flags that were kept with it, without a check: the first call makes it. With other
+    /// flags than were left, points are read in another order, or left out.
+    pub fn resume(image: &'a mut [u8], flags: u32) -> Self {
+        Store { image, flags }
+    }
+
+    /// The image and the flags, to be kept together ([`Store::resume`]).
+    ///
+    /// ```
+    /// # use rondo::{Plan, SeriesHandle, Store, TierConfig};
+    /// # let plan = Plan::new().schema(1, 7, &[TierConfig::from_nanos(10, 40, None)]);
+    /// # let mut image = [0; 228];
+    /// # let store = Store::create(&plan, &mut image)?;
+    /// let (image, flags) = store.into_parts();
+    /// let store = Store::resume(image, flags);
+    /// assert_eq!(store.image().len(), 228);
+    /// # Ok::<(), rondo::Refusal>(())
+    /// ```
+    pub fn into_parts(self) -> (&'a mut [u8], u32) {
+        (self.image, self.flags)
+    }
+
+    /// The bytes that were lent.
+    pub fn image(&self) -> &[u8] {
+        self.image
+    }
+
+    /// The wrap flags: bit i belongs to the plan's tier i, counted over all schemas. It is 1 once the ring was written past
+    /// its last slot.
+    pub fn flags(&self) -> u32 {
+        self.flags
+    }
+
+    /// Records a value in a series' finest tier. The slot is the stamp's, `stamp / interval` modulo slots; what stood there is
+    /// overwritten. NaN is stored, and read as no value.
+    ///
+    /// ```
+    /// # use rondo::{Plan, Refusal, SeriesHandle, Store, TierConfig};
+    /// # let plan = Plan::new().schema(1, 7, &[TierConfig::from_nanos(10, 40, None)]);
+    /// # let mut image = [0; 228];
+    /// # let mut store = Store::create(&plan, &mut image)?;
+    /// store.record(SeriesHandle::new(0, 0), 1.5, 20)?;
+    /// assert_eq!(store.record(SeriesHandle::new(0, 1), 1.5, 20), Err(Refusal::InvalidHandle));
+    /// # Ok::<(), Refusal>(())
+    /// ```
+    ///
+    /// # Errors
+    ///
+    /// Those of [`Store::open`], then [`Refusal::InvalidHandle`], [`Refusal::InvalidValue`], [`Refusal::InvalidTimestamp`], in
+    /// this order. Nothing is changed then.
+    pub fn record(&mut self, handle: SeriesHandle, value: f64, timestamp_ns: u64) -> Result<(), Refusal> {
+        calls::record(self.image, &mut self.flags, Entry { handle, value }, timestamp_ns)
+    }
+
+    /// Records values at one stamp, all or none, of one schema or several. This is the fast way to record: the image is
+    /// checked once. Of a series named twice the last value stays. No entries: nothing is changed.
+    ///
+    /// ```
+    /// # use rondo::{Entry, Plan, Refusal, SeriesHandle, Store, TierConfig};
+    /// # let plan = Plan::new().schema(2, 7, &[TierConfig::from_nanos(10, 40, None)]);
+    /// # let mut image = [0; 264];
+    /// # let mut store = Store::create(&plan, &mut image)?;
+    /// let (offset, drift) = (SeriesHandle::new(0, 0), SeriesHandle::new(0, 1));
+    /// store.record_batch(&[Entry::new(offset, 12.0), Entry::new(drift, -0.5)], 20)?;
+    /// assert!(store.query(drift, 0, 0, u64::MAX)?.points().eq([(20, -0.5)]));
+    /// # Ok::<(), Refusal>(())
+    /// ```
+    ///
+    /// # Errors
+    ///
+    /// Those of [`Store::open`]; then, if there are entries, [`Refusal::InvalidHandle`] for any entry,
+    /// [`Refusal::InvalidTimestamp`], [`Refusal::InvalidValue`] for any entry, in this order. Nothing is changed then.
+    pub fn record_batch(&mut self, entries: &[Entry], timestamp_ns: u64) -> Result<(), Refusal> {
+        calls::record_batch(self.image, &mut self.flags, entries, timestamp_ns)
+    }
+
+    /// The points of a series in a tier (0 is the finest) with `start_ns <= stamp < end_ns`. All time is 0 and `u64::MAX`.
+    ///
+    /// # Errors
+    ///
+    /// Those of [`Store::open`], then [`Refusal::InvalidHandle`], [`Refusal::InvalidTier`], [`Refusal::InvalidTimeRange`], in
+    /// this order.
+    pub fn query(&self, handle: SeriesHandle, tier: u32, start_ns: u64, end_ns: u64) -> Result<QueryResult<'_>, Refusal> {
+        let answer = calls::query(self.image, self.flags, asked(handle, start_ns, end_ns), tier)?;
+        Ok(QueryResult::new(self.image, answer))
+    }
+
+    /// The same in the first tier that covers the range in full (it starts at the oldest stamp or later, and ends at the
+    /// newest or before), else in the last tier that is not empty, else in the finest.
+    ///
+    /// ```
+    /// # use rondo::{Plan, SeriesHandle, Store, TierConfig};
+    /// # let plan = Plan::new().schema(1, 7, &[TierConfig::from_nanos(10, 40, None)]);
+    /// # let mut image = [0; 228];
+    /// # let mut store = Store::create(&plan, &mut image)?;
+    /// # let handle = SeriesHandle::new(0, 0);
+    /// let answer = store.query_auto(handle, 10, 40)?;
+    /// assert_eq!((answer.tier_used(), answer.oldest(), answer.may_be_incomplete()), (0, None, true));
+    /// # Ok::<(), rondo::Refusal>(())
+    /// ```
+    ///
+    /// # Errors
+    ///
+    /// Those of [`Store::open`], then [`Refusal::InvalidHandle`], [`Refusal::InvalidTimeRange`], in this order.
+    pub fn query_auto(&self, handle: SeriesHandle, start_ns: u64, end_ns: u64) -> Result<QueryResult<'_>, Refusal> {
+        let answer = calls::query_auto(self.image, self.flags, asked(handle, start_ns, end_ns))?;
+        Ok(QueryResult::new(self.image, answer))
+    }
+
+    /// Brings every coarser tier up to date, and answers how many values were written. It may follow any sample. The window
+    /// that the last run ended in is read again from its start, over the samples that the finer ring still has, and is counted
+    /// again, even where nothing is new: run it at least once in each coarsest interval, and let every ring but the coarsest
+    /// hold two of those.
+    ///
+    /// It looks at every stamp of each ring but the coarsest. An image that came from elsewhere may take long, as many passes
+    /// over a ring as it has slots: don't run one that you don't trust where nothing may wait.
+    ///
+    /// # Errors
+    ///
+    /// Those of [`Store::open`], and nothing is changed then. After those, by pair of tiers,
+    /// [`Refusal::NoConsolidationFunction`], [`Refusal::CorruptedSlab`], [`Refusal::InvalidValue`] (a sum that overflowed),
+    /// [`Refusal::InvalidTimestamp`] (the window that starts at 0). **Such a refused run keeps what it did before**: the values
+    /// that it wrote, their flags, and how far the pairs before are done. How many those are is not answered.
+    ///
+    /// ```
+    /// use rondo::{ConsolidationFn, Plan, Refusal, SeriesHandle, Store, TierConfig};
+    ///
+    /// // the coarsest tier has no function: the run makes the middle one, and is refused then
+    /// let plan = Plan::new().schema(1, 7, &[
+    ///     TierConfig::from_nanos(10, 120, None),
+    ///     TierConfig::from_nanos(30, 120, Some(ConsolidationFn::Sum)),
+    ///     TierConfig::from_nanos(60, 120, None),
+    /// ]);
+    /// let mut image = [0; 1024];
+    /// let mut store = Store::create(&plan, &mut image)?;
+    /// let handle = SeriesHandle::new(0, 0);
+    /// store.record(handle, 1.0, 60)?;
+    /// store.record(handle, 2.0, 70)?;
+    /// assert_eq!(store.consolidate(), Err(Refusal::NoConsolidationFunction));
+    /// assert!(store.query(handle, 1, 0, u64::MAX)?.points().eq([(60, 3.0)]));
+    /// # Ok::<(), Refusal>(())
+    /// ```
+    pub fn consolidate(&mut self) -> Result<u64, Refusal> {
+        calls::consolidate(self.image, &mut self.flags)
+    }
+}
+
+fn asked(handle: SeriesHandle, start: u64, end: u64) -> Asked {
+    Asked { schema: handle.schema, column: handle.column, start, end }
+}
+
+impl fmt::Debug for Store<'_> {
+    fn fmt(&self, f: &mut fmt::Formatter<'_>) -> fmt::Result {
+        f.debug_struct("Store").field("bytes", &self.image.len()).field("flags", &self.flags).finish()
+    }
+}
