@@ -3,32 +3,36 @@
 use std::env;
 use std::fs;
 use std::path::{Path, PathBuf};
-use std::process::{Command, exit};
+use std::process::Command;
 use std::time::SystemTime;
 
 const ARCHIVE: &str = "librondo.a";
 
 fn main() {
-    println!("cargo::rerun-if-changed=build.rs");
+    let mut watched = Vec::new();
+    match find(&mut watched) {
+        Ok(folder) => {
+            println!("cargo::rustc-link-search=native={}", folder.display());
+            println!("cargo::rustc-link-lib=static=rondo");
+            watched.extend([PathBuf::from("build.rs"), folder.join(ARCHIVE)]);
+        }
+        Err(why) => why.lines().for_each(|line| println!("cargo::error={line}")),
+    }
     println!("cargo::rerun-if-env-changed=RONDO_LIB_DIR");
-    let folder = find().unwrap_or_else(|why| {
-        eprintln!("{why}");
-        exit(1)
-    });
-    println!("cargo::rerun-if-changed={}", folder.join(ARCHIVE).display());
-    println!("cargo::rustc-link-search=native={}", folder.display());
-    println!("cargo::rustc-link-lib=static=rondo");
+    for path in watched {
+        println!("cargo::rerun-if-changed={}", path.display());
+    }
 }
 
-/// The folder that librondo.a stands in, or words that say what to do.
-fn find() -> Result<PathBuf, String> {
+/// The folder that librondo.a stands in, or words that say what to do. `watched` takes the folders of source that were looked at.
+fn find(watched: &mut Vec<PathBuf>) -> Result<PathBuf, String> {
     if let Some(named) = env::var_os("RONDO_LIB_DIR") {
         return lent(PathBuf::from(named));
     }
     let here = PathBuf::from(env::var_os("CARGO_MANIFEST_DIR").ok_or("cargo names no folder of this crate")?);
     let root = here.join("../..").canonicalize().map_err(|e| advice(&format!("{}: {e}", here.display())))?;
     let folder = root.join("target/staticlib");
-    let newest = newest_source(&root.join("crates"));
+    let newest = newest_source(&root.join("crates"), watched);
     if fresh(&folder.join(ARCHIVE), newest) {
         return Ok(folder);
     }
@@ -51,16 +55,17 @@ fn lent(folder: PathBuf) -> Result<PathBuf, String> {
 }
 
 /// The time of the newest file in crates/*/src; none where there is no such file.
-fn newest_source(crates: &Path) -> Option<SystemTime> {
+fn newest_source(crates: &Path, watched: &mut Vec<PathBuf>) -> Option<SystemTime> {
     let folders = fs::read_dir(crates).ok()?;
-    folders.flatten().filter_map(|c| newest_in(&c.path().join("src"))).max()
+    folders.flatten().filter_map(|c| newest_in(&c.path().join("src"), watched)).max()
 }
 
-/// The time of the newest file in a folder and those below it. Cargo is told to look at the folder.
-fn newest_in(folder: &Path) -> Option<SystemTime> {
+/// The time of the newest file in a folder and those below it.
+fn newest_in(folder: &Path, watched: &mut Vec<PathBuf>) -> Option<SystemTime> {
     let files = fs::read_dir(folder).ok()?;
-    println!("cargo::rerun-if-changed={}", folder.display());
-    files.flatten().map(|f| f.path()).filter_map(|p| if p.is_dir() { newest_in(&p) } else { changed(&p) }).max()
+    watched.push(folder.to_path_buf());
+    let paths = files.flatten().map(|f| f.path());
+    paths.filter_map(|p| if p.is_dir() { newest_in(&p, watched) } else { changed(&p) }).max()
 }
 
 fn changed(file: &Path) -> Option<SystemTime> {
@@ -78,10 +83,10 @@ fn build(root: &Path) -> Result<(), String> {
     match done {
         Ok(out) if out.status.success() => Ok(()),
         Ok(out) => Err(advice(&format!(
-            "`rt staticlib rondo` in {} failed:\n{}{}",
+            "`rt staticlib rondo` in {} failed:\n{}\n{}",
             root.display(),
-            String::from_utf8_lossy(&out.stdout),
-            String::from_utf8_lossy(&out.stderr),
+            String::from_utf8_lossy(&out.stdout).trim_end(),
+            String::from_utf8_lossy(&out.stderr).trim_end(),
         ))),
         Err(e) => Err(advice(&format!("`rt staticlib rondo` in {} could not be started: {e}", root.display()))),
     }
