@@ -8,6 +8,8 @@ mod shared;
 use shared::{EVER, bytes_for, raw, tier};
 
 const SECOND: u64 = 1_000_000_000;
+/// FNV-1a over the image that c-edge/tour.rs has at its end, before it damages it.
+const TOURS_IMAGE: u64 = 0x9e2f_c78b_2b1e_85d7;
 const AVERAGE: Option<ConsolidationFn> = Some(ConsolidationFn::Average);
 const OFFSET: SeriesHandle = SeriesHandle::new(0, 0);
 const OTHER: SeriesHandle = SeriesHandle::new(0, 1);
@@ -63,6 +65,11 @@ fn the_same_bytes() {
         }
     }
     assert!(store.image() == plain.image);
+    assert_eq!(fnv(store.image()), TOURS_IMAGE);
+}
+
+fn fnv(bytes: &[u8]) -> u64 {
+    bytes.iter().fold(0xcbf2_9ce4_8422_2325, |sum, &byte| (sum ^ u64::from(byte)).wrapping_mul(0x100_0000_01b3))
 }
 
 fn show(out: &mut String, answer: QueryResult) {
