@@ -21,7 +21,7 @@ const ROW: usize = 64;
 /// use core::time::Duration;
 ///
 /// assert_eq!(rondo::nanos(Duration::from_secs(60)), 60_000_000_000);
-/// assert_eq!(rondo::nanos(Duration::MAX), u64::MAX);
+/// assert_eq!(rondo::nanos(Duration::from_secs(1 << 35)), u64::MAX);
 /// ```
 pub const fn nanos(time: Duration) -> u64 {
     let exact = time.as_nanos();

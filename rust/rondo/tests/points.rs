@@ -1,15 +1,12 @@
 //! The iterator over points, held against one point a call.
 
-use rondo::{Plan, SeriesHandle, Store};
+use rondo::{ConsolidationFn, Plan, QueryResult, SeriesHandle, Store};
 
 mod shared;
 use shared::{EVER, FIRST, Numbers, bytes_for, patterns, raw, tens_into_thirties, tier};
 
-/// The crate's answer and points, and the library's, one point a call.
-fn compare(store: &Store, column: u32, range: (u64, u64)) -> usize {
-    let handle = SeriesHandle::new(0, column);
-    let answer = store.query(handle, 0, range.0, range.1).unwrap();
-    let mut plain = raw::query(store.image(), store.flags(), column, 0, range);
+/// Holds an answer of the crate against the library's, and its points against one a call; answers how many there are.
+fn same(image: &[u8], answer: QueryResult, mut plain: raw::Answer) -> usize {
     assert_eq!(answer.tier_used(), plain.tier as u32);
     assert_eq!(answer.oldest().unwrap_or(0), plain.oldest);
     assert_eq!(answer.newest().unwrap_or(0), plain.newest);
@@ -17,7 +14,7 @@ fn compare(store: &Store, column: u32, range: (u64, u64)) -> usize {
     assert_eq!(answer.may_be_incomplete(), plain.incomplete == 1);
     let mut points = answer.points();
     let mut count = 0;
-    while let Some(point) = raw::next(store.image(), &mut plain) {
+    while let Some(point) = raw::next(image, &mut plain) {
         let (least, most) = points.size_hint();
         assert!(most.is_some_and(|most| most >= 1 && most >= least));
         assert_eq!(points.next().map(|(stamp, value)| (stamp, value.to_bits())), Some(point));
@@ -28,6 +25,12 @@ fn compare(store: &Store, column: u32, range: (u64, u64)) -> usize {
     }
     assert_eq!(points.size_hint(), (0, Some(0)));
     count
+}
+
+/// A query of a column of the first schema's finest tier.
+fn compare(store: &Store, column: u32, range: (u64, u64)) -> usize {
+    let answer = store.query(SeriesHandle::new(0, column), 0, range.0, range.1).unwrap();
+    same(store.image(), answer, raw::query(store.image(), store.flags(), column, 0, range))
 }
 
 #[test]
@@ -59,6 +62,33 @@ fn as_one_point_a_call() {
     }
     println!("{queries} queries, {points} points");
     assert!(points > 10_000);
+}
+
+/// Two schemas, one of two columns and three tiers: the tier that covers best.
+#[test]
+fn the_tier_that_covers_best() {
+    let mut numbers = Numbers(521288629);
+    let (last, sum) = (Some(ConsolidationFn::Last), Some(ConsolidationFn::Sum));
+    let plan = Plan::new().schema(1, 5, &[tier(7, 70, None)]);
+    let plan = plan.schema(2, 6, &[tier(10, 240, None), tier(30, 600, last), tier(120, 1200, sum)]);
+    let mut image = bytes_for(&plan);
+    let mut store = Store::create(&plan, &mut image).unwrap();
+    let mut taken = [0; 3];
+    for k in 12..500 {
+        for (schema, column) in [(0, 0), (1, 0), (1, 1)] {
+            store.record(SeriesHandle::new(schema, column), numbers.below(100) as f64, 10 * k).unwrap();
+        }
+        store.consolidate().unwrap();
+        let start = 10 * k - numbers.below(10 * k);
+        let range = (start, start + 1 + numbers.below(400));
+        for (schema, column) in [(0, 0), (1, 0), (1, 1)] {
+            let answer = store.query_auto(SeriesHandle::new(schema, column), range.0, range.1).unwrap();
+            taken[answer.tier_used() as usize] += 1;
+            same(store.image(), answer, raw::query_auto(store.image(), store.flags(), schema, column, range));
+        }
+    }
+    println!("tiers taken: {taken:?}");
+    assert!(taken.iter().all(|&times| times > 50));
 }
 
 #[test]

@@ -25,6 +25,9 @@ unsafe extern "C" {
         image: *const u8, image_len: usize, flags: u32, schema: u32, column: u32, tier: u32, start: u64, end: u64,
         answer: &mut Answer,
     ) -> u32;
+    fn rondo_query_auto(
+        image: *const u8, image_len: usize, flags: u32, schema: u32, column: u32, start: u64, end: u64, answer: &mut Answer,
+    ) -> u32;
     fn rondo_next(
         slab: *const u8, slab_len: usize, column: u32, start: u64, end: u64, place: &mut [u64; 2], point: &mut [u64; 2],
     ) -> u32;
@@ -73,6 +76,13 @@ impl Store {
 pub fn query(image: &[u8], flags: u32, column: u32, tier: u32, range: (u64, u64)) -> Answer {
     let (at, len, mut answer) = (image.as_ptr(), image.len(), Answer::default());
     assert_eq!(unsafe { rondo_query(at, len, flags, 0, column, tier, range.0, range.1, &mut answer) }, 0);
+    answer
+}
+
+/// An answer from the tier that covers the range best.
+pub fn query_auto(image: &[u8], flags: u32, schema: u32, column: u32, range: (u64, u64)) -> Answer {
+    let (at, len, mut answer) = (image.as_ptr(), image.len(), Answer::default());
+    assert_eq!(unsafe { rondo_query_auto(at, len, flags, schema, column, range.0, range.1, &mut answer) }, 0);
     answer
 }
 
