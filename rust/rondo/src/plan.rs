@@ -119,7 +119,9 @@ pub struct Plan {
 impl Plan {
     /// A plan without schemas, which is refused as it is ([`Refusal::BadImage`]).
     pub const fn new() -> Self {
-        Plan { bytes: [0; HEADER + ROW * MAX_TIERS], schemas: 0, rows: 0 }.with_header()
+        let mut plan = Plan { bytes: [0; HEADER + ROW * MAX_TIERS], schemas: 0, rows: 0 };
+        plan.put_header();
+        plan
     }
 
     /// The plan with one more schema: its number is how many there were before. `max_series` is how many series it has;
@@ -130,11 +132,12 @@ impl Plan {
     pub const fn schema(mut self, max_series: u32, hash: u64, tiers: &[TierConfig]) -> Self {
         let mut tier = 0;
         while tier < tiers.len() {
-            self = self.with_row(tier as u32, &tiers[tier], max_series, hash);
+            self.put_row(tier as u32, &tiers[tier], max_series, hash);
             tier += 1;
         }
         self.schemas = self.schemas.saturating_add(1);
-        self.with_header()
+        self.put_header();
+        self
     }
 
     /// How many schemas it was given.
@@ -164,42 +167,39 @@ impl Plan {
         self.bytes.get(..HEADER + ROW * kept).unwrap_or(&self.bytes)
     }
 
-    const fn with_header(self) -> Self {
-        let (schemas, rows) = (self.schemas as u64, self.rows as u64);
-        let magic = u32::from_le_bytes(*b"RSTO") as u64;
-        self.with(0, 4, magic).with(4, 4, 1).with(8, 4, schemas).with(12, 4, rows)
+    const fn put_header(&mut self) {
+        self.put(0, 4, u32::from_le_bytes(*b"RSTO") as u64);
+        self.put(4, 4, 1);
+        self.put(8, 4, self.schemas as u64);
+        self.put(12, 4, self.rows as u64);
     }
 
-    const fn with_row(mut self, tier: u32, config: &TierConfig, max_series: u32, hash: u64) -> Self {
+    const fn put_row(&mut self, tier: u32, config: &TierConfig, max_series: u32, hash: u64) {
         if (self.rows as usize) < MAX_TIERS {
             let at = HEADER + ROW * self.rows as usize;
             let function = match config.consolidation_fn {
                 Some(function) => function.number(),
                 None => 0,
             };
-            let schema = self.schemas as u64;
-            self = self
-                .with(at, 4, schema)
-                .with(at + 4, 4, tier as u64)
-                .with(at + 8, 8, config.interval_ns)
-                .with(at + 16, 8, config.retention_ns)
-                .with(at + 24, 4, function as u64)
-                .with(at + 28, 4, max_series as u64)
-                .with(at + 56, 8, hash);
+            self.put(at, 4, self.schemas as u64);
+            self.put(at + 4, 4, tier as u64);
+            self.put(at + 8, 8, config.interval_ns);
+            self.put(at + 16, 8, config.retention_ns);
+            self.put(at + 24, 4, function as u64);
+            self.put(at + 28, 4, max_series as u64);
+            self.put(at + 56, 8, hash);
         }
         self.rows = self.rows.saturating_add(1);
-        self
     }
 
-    /// The plan with a number of so many bytes at an offset, the least byte first.
-    const fn with(mut self, at: usize, width: usize, number: u64) -> Self {
+    /// Writes a number of so many bytes at an offset, the least byte first.
+    const fn put(&mut self, at: usize, width: usize, number: u64) {
         let bytes = number.to_le_bytes();
         let mut i = 0;
         while i < width {
             self.bytes[at + i] = bytes[i];
             i += 1;
         }
-        self
     }
 }
 

@@ -116,7 +116,9 @@ impl Refusal {
 
     const fn words(self) -> &'static str {
         match self {
-            Refusal::BadImage => "the table of contents is not as it must be, or the image is shorter than it says",
+            Refusal::BadImage => {
+                "the plan has no schema, more than 8 or more than 32 tiers, or the image is damaged in its table or cut short"
+            }
             Refusal::NoTiers => "a schema has no tier",
             Refusal::InvalidMaxSeries => "a schema's greatest number of series is 0",
             Refusal::InvalidTierConfig => {

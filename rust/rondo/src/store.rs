@@ -185,6 +185,25 @@ impl<'a> Store<'a> {
 
     /// The points of a series in a tier (0 is the finest) with `start_ns <= stamp < end_ns`. All time is 0 and `u64::MAX`.
     ///
+    /// ```
+    /// # use rondo::{Plan, Refusal, SeriesHandle, Store, TierConfig};
+    /// # let plan = Plan::new().schema(1, 7, &[TierConfig::from_nanos(10, 40, None)]);
+    /// # let mut image = [0; 228];
+    /// # let mut store = Store::create(&plan, &mut image)?;
+    /// # let handle = SeriesHandle::new(0, 0);
+    /// store.record(handle, 1.5, 20)?;
+    /// store.record(handle, 2.5, 30)?;
+    /// let answer = store.query(handle, 0, 0, 30)?;
+    /// assert_eq!(answer.available_range(), (Some(20), Some(30)));
+    /// assert_eq!(answer.requested_range(), (0, 30));
+    /// assert!(answer.may_be_incomplete()); // the range starts before the oldest stamp
+    /// for (stamp, value) in answer {
+    ///     assert_eq!((stamp, value), (20, 1.5));
+    /// }
+    /// assert_eq!(store.query(handle, 1, 0, 30).unwrap_err(), Refusal::InvalidTier);
+    /// # Ok::<(), Refusal>(())
+    /// ```
+    ///
     /// # Errors
     ///
     /// Those of [`Store::open`], then [`Refusal::InvalidHandle`], [`Refusal::InvalidTier`], [`Refusal::InvalidTimeRange`], in
