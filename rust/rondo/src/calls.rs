@@ -38,9 +38,7 @@ mod raw {
 
     unsafe extern "C" {
         pub(super) fn rondo_image_size(plan: *const u8, plan_len: usize, size: &mut u64) -> u32;
-        pub(super) fn rondo_create(
-            plan: *const u8, plan_len: usize, image: *mut u8, image_len: usize, flags: &mut u32,
-        ) -> u32;
+        pub(super) fn rondo_create(plan: *const u8, plan_len: usize, image: *mut u8, image_len: usize, flags: &mut u32) -> u32;
         pub(super) fn rondo_open(image: *const u8, image_len: usize, flags: &mut u32) -> u32;
         pub(super) fn rondo_record(
             image: *mut u8, image_len: usize, flags: &mut u32, schema: u32, column: u32, value: u64, stamp: u64,
@@ -53,8 +51,7 @@ mod raw {
             answer: &mut Answer,
         ) -> u32;
         pub(super) fn rondo_query_auto(
-            image: *const u8, image_len: usize, flags: u32, schema: u32, column: u32, start: u64, end: u64,
-            answer: &mut Answer,
+            image: *const u8, image_len: usize, flags: u32, schema: u32, column: u32, start: u64, end: u64, answer: &mut Answer,
         ) -> u32;
         pub(super) fn rondo_read(
             slab: *const u8, slab_len: usize, column: u32, start: u64, end: u64, place: &mut Place, words: *mut u64,
