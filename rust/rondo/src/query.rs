@@ -68,7 +68,7 @@ impl<'s> QueryResult<'s> {
         self.answer.tier as u32
     }
 
-    /// The ring's oldest stamp, that of the first slot in reading order; none where the ring is empty.
+    /// The ring's oldest stamp, the first in reading order; none where the ring is empty.
     pub fn oldest(&self) -> Option<u64> {
         (self.answer.oldest != 0).then_some(self.answer.oldest)
     }

@@ -134,8 +134,8 @@ impl<'a> Store<'a> {
         self.image
     }
 
-    /// The wrap flags: bit i belongs to the plan's tier i, counted over all schemas. It is 1 once the ring was written past
-    /// its last slot.
+    /// The wrap flags: bit i belongs to the plan's tier i, counted over all schemas. It is 1 where all slots of the ring are
+    /// read, from the one behind the slot written last; 0 where those from the first up to that one are.
     pub fn flags(&self) -> u32 {
         self.flags
     }
