@@ -1,4 +1,4 @@
-//! The calls of librondo.a as c-edge/include/rondo.h has them, each behind a safe function. All unsafe code of the crate is here.
+//! The calls of librondo.a as c/include/rondo.h has them, each behind a safe function. All unsafe code of the crate is here.
 //!
 //! The library may be handed any bytes and any numbers. What it asks (`SAFETY` below: "slices") is that a pointer and a length
 //! describe memory of the caller's that does not overlap with the call's other blocks and that nothing else changes meanwhile.

@@ -5,7 +5,7 @@ use rondo::{ConsolidationFn, Entry, Plan, Refusal, SeriesHandle, Store, TierConf
 mod shared;
 use shared::{EVER, FIRST, bytes_for, put, tens_into_thirties, tier};
 
-const HEADER: &str = include_str!("../../../c-edge/include/rondo.h");
+const HEADER: &str = include_str!("../../../c/include/rondo.h");
 const AVERAGE: Option<ConsolidationFn> = Some(ConsolidationFn::Average);
 
 /// The header's `RONDO_.. = number`, in its order.

@@ -1,4 +1,4 @@
-//! The tour of c-edge/tour.rs through the crate: the same bytes and flags after every call, and the lines of c-edge/expected.
+//! The tour of c/tour.rs through the crate: the same bytes and flags after every call, and the lines of c/expected.
 
 use std::fmt::Write;
 
@@ -8,7 +8,7 @@ mod shared;
 use shared::{EVER, bytes_for, raw, tier};
 
 const SECOND: u64 = 1_000_000_000;
-/// FNV-1a over the image that c-edge/tour.rs has at its end, before it damages it.
+/// FNV-1a over the image that c/tour.rs has at its end, before it damages it.
 const TOURS_IMAGE: u64 = 0x9e2f_c78b_2b1e_85d7;
 const AVERAGE: Option<ConsolidationFn> = Some(ConsolidationFn::Average);
 const OFFSET: SeriesHandle = SeriesHandle::new(0, 0);
@@ -137,6 +137,6 @@ fn the_same_lines() {
     image[0] ^= 1;
     writeln!(out, "damaged: {}", Store::open(&mut image).unwrap_err().number()).unwrap();
     let expected: Vec<&str> =
-        include_str!("../../../c-edge/expected").lines().filter(|line| !line.starts_with("sixteen")).collect();
+        include_str!("../../../c/expected").lines().filter(|line| !line.starts_with("sixteen")).collect();
     assert_eq!(out.lines().collect::<Vec<_>>(), expected);
 }

@@ -1,4 +1,4 @@
-//! The library's calls as c-edge/tour.rs makes them, without the crate's types.
+//! The library's calls as c/tour.rs makes them, without the crate's types.
 
 #[repr(C)]
 #[derive(Default, Clone)]
@@ -34,7 +34,7 @@ unsafe extern "C" {
     fn rondo_consolidate(image: *mut u8, image_len: usize, flags: &mut u32, count: &mut u64) -> u32;
 }
 
-/// A store as c-edge/tour.rs has it.
+/// A store as c/tour.rs has it.
 pub struct Store {
     pub image: Vec<u8>,
     pub flags: u32,
