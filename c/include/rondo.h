@@ -26,7 +26,7 @@
  * What it asks of a machine (make check tries each of these):
  * - x86-64 with the System V calling convention, as on Linux; SSE2 and nothing newer.
  * - memset: the one symbol that librondo.a needs (nm -u).
- * - Code: 17,970 bytes with constants, and no data (size librondo.a; the build of 2026-11-17).
+ * - Code: 18,007 bytes with constants, and no data (size librondo.a; the build of 2026-11-17).
  * - Stack: at most RONDO_STACK_SIZE bytes a call, beside memset's own. That build takes 716, the return
  *   address among them: the deepest path of each call, added up from the disassembly (c/tests/stack.awk);
  *   544 is the most that the single-stepped calls took. Up to 4 of them lie below the stack pointer, as
