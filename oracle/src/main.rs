@@ -245,7 +245,7 @@ fn main() {
     let length = argument("--length", 60);
     let threads = argument("--threads", 2);
     if let Some(folder) = std::env::args().skip_while(|a| a != "--store").nth(1) {
-        return replay::write(&folder, seed);
+        return stored::write(&folder, seed);
     }
     println!("seed {seed}");
     let start = Instant::now();
