@@ -1,0 +1,150 @@
+//! Samples from text: lines `SCHEMA COLUMN STAMP VALUE`, or CSV with or without a line of names.
+
+use std::io::{self, Read};
+
+use crate::failure::{Done, FILE, Failure, plain};
+use crate::{time, value};
+
+/// A sample, and the line that it came from; 0: from the command's words.
+#[derive(Debug, Clone, Copy)]
+pub struct Sample {
+    pub line: u64,
+    pub schema: u32,
+    pub column: u32,
+    pub stamp: u64,
+    pub value: f64,
+}
+
+/// The samples of standard input, all of them, or the first line that is bad.
+pub fn standard(now: u64) -> Done<Vec<Sample>> {
+    let text = text()?;
+    let first = text.lines().map(str::trim).find(|l| !l.is_empty() && !l.starts_with('#'));
+    match first {
+        Some(line) if line.contains(',') => csv_samples(&text, now),
+        _ => plain_samples(&text, now),
+    }
+}
+
+/// Standard input as text.
+pub fn text() -> Done<String> {
+    let mut bytes = Vec::new();
+    let input = |e: io::Error| Failure { status: FILE, words: format!("standard input: {}", plain(&e)) };
+    io::stdin().lock().read_to_end(&mut bytes).map_err(input)?;
+    String::from_utf8(bytes).map_err(|e| {
+        let good = e.utf8_error().valid_up_to();
+        let line = e.as_bytes()[..good].iter().filter(|b| **b == b'\n').count() + 1;
+        Failure::refused(format!("line {line}: it is not text in UTF-8; nothing is stored"))
+    })
+}
+
+fn bad(line: u64, why: &str) -> Failure {
+    Failure::refused(format!("line {line}: {why}; nothing is stored"))
+}
+
+fn plain_samples(text: &str, now: u64) -> Done<Vec<Sample>> {
+    let mut samples = Vec::new();
+    for (line, words) in (1..).zip(text.lines()) {
+        let words: Vec<&str> = words.split_whitespace().collect();
+        if words.is_empty() || words[0].starts_with('#') {
+            continue;
+        }
+        samples.push(sample(&words, now).map_err(|why| bad(line, &why))?.at(line));
+    }
+    Ok(samples)
+}
+
+/// A sample from its four words.
+pub fn sample(words: &[&str], now: u64) -> Result<Sample, String> {
+    let names = ["SCHEMA", "COLUMN", "STAMP", "VALUE"];
+    if let Some(name) = names.get(words.len()) {
+        return Err(format!("{name} is missing"));
+    }
+    if let Some(word) = words.get(4) {
+        return Err(format!("one word too many: '{word}'"));
+    }
+    let said = |name: &str, word: &str, why: String| format!("{name} cannot be read from '{word}': {why}");
+    Ok(Sample {
+        line: 0,
+        schema: number(words[0]).map_err(|why| said("SCHEMA", words[0], why))?,
+        column: number(words[1]).map_err(|why| said("COLUMN", words[1], why))?,
+        stamp: time::stamp(words[2], now).map_err(|why| said("STAMP", words[2], why))?,
+        value: value::read(words[3]).map_err(|why| said("VALUE", words[3], why))?,
+    })
+}
+
+/// A whole number; one too large for a handle becomes the largest, which no image has.
+pub fn number(text: &str) -> Result<u32, String> {
+    if text.is_empty() || !text.bytes().all(|b| b.is_ascii_digit()) {
+        return Err("it is no whole number".to_string());
+    }
+    Ok(text.parse().unwrap_or(u32::MAX))
+}
+
+impl Sample {
+    fn at(mut self, line: u64) -> Self {
+        self.line = line;
+        self
+    }
+}
+
+/// Which field of a CSV record is which; none: schema and column are 0.
+struct Fields {
+    schema: Option<usize>,
+    column: Option<usize>,
+    stamp: usize,
+    value: usize,
+    bare_ns: bool,
+}
+
+fn csv_samples(text: &str, now: u64) -> Done<Vec<Sample>> {
+    let mut fields = None;
+    let mut samples = Vec::new();
+    for (line, text) in (1..).zip(text.lines()) {
+        if text.trim().is_empty() || text.trim_start().starts_with('#') {
+            continue;
+        }
+        let record = csv_record(text).map_err(|why| bad(line, &why))?;
+        match &fields {
+            None if record.iter().any(|f| f == "value") => fields = Some(named(&record).map_err(|why| bad(line, &why))?),
+            _ => {
+                let usual = Fields { schema: Some(0), column: Some(1), stamp: 2, value: 3, bare_ns: false };
+                let fields = fields.get_or_insert(usual);
+                samples.push(csv_sample(&record, fields, now).map_err(|why| bad(line, &why))?.at(line));
+            }
+        }
+    }
+    Ok(samples)
+}
+
+/// The fields of one line. A line is a record, so that the line's number is known.
+fn csv_record(text: &str) -> Result<csv::StringRecord, String> {
+    let mut build = csv::ReaderBuilder::new();
+    let build = build.has_headers(false).flexible(true).trim(csv::Trim::All).buffer_capacity(text.len() + 1);
+    let mut record = csv::StringRecord::new();
+    build.from_reader(text.as_bytes()).read_record(&mut record).map_err(|e| e.to_string())?;
+    Ok(record)
+}
+
+/// The fields by a line of names: schema, column, stamp or time or stamp_ns, value.
+fn named(record: &csv::StringRecord) -> Result<Fields, String> {
+    let find = |name: &str| record.iter().position(|field| field == name);
+    let exact = find("stamp_ns");
+    let stamp = exact.or(find("stamp")).or(find("time")).ok_or("no field is named stamp, stamp_ns or time")?;
+    let value = find("value").ok_or("no field is named value")?;
+    Ok(Fields { schema: find("schema"), column: find("column"), stamp, value, bare_ns: exact.is_some() })
+}
+
+fn csv_sample(record: &csv::StringRecord, fields: &Fields, now: u64) -> Result<Sample, String> {
+    let field = |at: Option<usize>, name: &str| match at {
+        None => Ok("0"),
+        Some(at) => record.get(at).ok_or(format!("{name} is missing")),
+    };
+    let most = [fields.schema, fields.column, Some(fields.stamp), Some(fields.value)].into_iter().flatten().max();
+    if fields.schema == Some(0) && fields.value == 3 && most == Some(3) && record.len() > 4 {
+        return Err(format!("one field too many: '{}'", &record[4]));
+    }
+    let stamp = field(Some(fields.stamp), "STAMP")?;
+    let stamp = if fields.bare_ns { format!("{stamp}ns") } else { stamp.to_string() };
+    let (schema, column) = (field(fields.schema, "SCHEMA")?, field(fields.column, "COLUMN")?);
+    sample(&[schema, column, &stamp, field(Some(fields.value), "VALUE")?], now)
+}

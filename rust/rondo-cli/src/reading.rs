@@ -1,0 +1,168 @@
+//! The commands that read an image: query, show, check.
+
+use std::fmt::Write;
+use std::io::{self, IsTerminal};
+use std::path::Path;
+
+use rondo::{QueryResult, Refusal, SeriesHandle, Store};
+use serde_json::{Value, json};
+
+use crate::cli::{Asked, Tier};
+use crate::failure::{Done, Failure, refusal};
+use crate::table;
+use crate::time::{self, date, spoken};
+use crate::writing::{no_series, open};
+use crate::{file, value};
+
+/// The form of a query's output.
+#[derive(Clone, Copy, PartialEq)]
+pub enum Form {
+    Table,
+    Csv,
+    Json,
+}
+
+/// A query's answer and its points.
+pub struct Answer {
+    pub tier: u32,
+    pub oldest: Option<u64>,
+    pub newest: Option<u64>,
+    pub incomplete: bool,
+    pub points: Vec<(u64, f64)>,
+}
+
+pub fn ask(asked: &Asked) -> Done<Answer> {
+    let now = time::now();
+    let start = bound("START", asked.start.as_deref(), now, 0)?;
+    let end = bound("END", asked.end.as_deref(), now, u64::MAX)?;
+    let mut bytes = file::read(&asked.file)?;
+    let store = open(&asked.file, &mut bytes)?;
+    let handle = SeriesHandle::new(asked.schema, asked.column);
+    let found = match asked.tier {
+        Tier::Auto => store.query_auto(handle, start, end),
+        Tier::Number(tier) => store.query(handle, tier, start, end),
+    };
+    match found {
+        Ok(found) => Ok(answer(found)),
+        Err(r) => Err(refusal(r, &why(&store, asked, r, start, end)).after(asked.file.display())),
+    }
+}
+
+fn answer(found: QueryResult) -> Answer {
+    let (oldest, newest) = found.available_range();
+    let (tier, incomplete) = (found.tier_used(), found.may_be_incomplete());
+    Answer { tier, oldest, newest, incomplete, points: found.points().collect() }
+}
+
+fn bound(name: &str, text: Option<&str>, now: u64, all: u64) -> Done<u64> {
+    let Some(text) = text else { return Ok(all) };
+    time::stamp(text, now).map_err(|why| Failure::usage(format!("{name} cannot be read from '{text}': {why}")))
+}
+
+fn why(store: &Store, asked: &Asked, refusal: Refusal, start: u64, end: u64) -> String {
+    match refusal {
+        Refusal::InvalidHandle => no_series(store.image(), SeriesHandle::new(asked.schema, asked.column)),
+        Refusal::InvalidTier => {
+            let tiers = table::tiers(&table::rows(store.image()), asked.schema).len();
+            format!("schema {} has tiers 0 to {}", asked.schema, tiers.saturating_sub(1))
+        }
+        Refusal::InvalidTimeRange => {
+            format!("the range starts at {} and must end later, not at {}", date(start), date(end))
+        }
+        other => other.to_string(),
+    }
+}
+
+pub fn query(asked: &Asked, form: Form) -> Done<String> {
+    let answer = ask(asked)?;
+    Ok(match form {
+        Form::Table => table_of(&answer),
+        Form::Csv => csv_of(&answer)?,
+        Form::Json => json_of(&answer),
+    })
+}
+
+/// The line that says what was asked of: tier and ends.
+pub fn heading(answer: &Answer) -> String {
+    let end = |stamp: Option<u64>| stamp.map_or("none".to_string(), date);
+    let incomplete = if answer.incomplete { ", may be incomplete" } else { "" };
+    format!("# tier {}, oldest {}, newest {}{incomplete}\n", answer.tier, end(answer.oldest), end(answer.newest))
+}
+
+/// Text in bold on a terminal, plain elsewhere.
+pub fn bold(text: &str) -> String {
+    if io::stdout().is_terminal() && std::env::var_os("NO_COLOR").is_none() {
+        format!("\x1b[1m{}\x1b[0m\n", text.trim_end())
+    } else {
+        text.to_string()
+    }
+}
+
+fn table_of(answer: &Answer) -> String {
+    let mut out = bold(&heading(answer));
+    out.push_str(&bold(&format!("#{:>30} {:>22} {:>24}\n", "time", "stamp", "value")));
+    for (stamp, v) in &answer.points {
+        let _ = writeln!(out, "{:>31} {:>22} {:>24}", date(*stamp), format!("{stamp}ns"), value::text(*v));
+    }
+    out
+}
+
+fn csv_of(answer: &Answer) -> Done<String> {
+    let fail = |e: csv::Error| Failure::refused(e.to_string());
+    let mut writer = csv::Writer::from_writer(Vec::new());
+    writer.write_record(["stamp_ns", "time", "value"]).map_err(fail)?;
+    for (stamp, v) in &answer.points {
+        writer.write_record([stamp.to_string(), date(*stamp), value::text(*v)]).map_err(fail)?;
+    }
+    let bytes = writer.into_inner().map_err(|e| Failure::refused(e.to_string()))?;
+    Ok(String::from_utf8_lossy(&bytes).into_owned())
+}
+
+fn json_of(answer: &Answer) -> String {
+    let point = |(stamp, v): &(u64, f64)| {
+        // JSON has no infinite numbers, and an image from elsewhere may have some
+        let v = if v.is_finite() { json!(v) } else { Value::String(value::text(*v)) };
+        json!({ "stamp_ns": stamp, "time": date(*stamp), "value": v })
+    };
+    let all = json!({
+        "tier": answer.tier,
+        "oldest_ns": answer.oldest,
+        "newest_ns": answer.newest,
+        "may_be_incomplete": answer.incomplete,
+        "points": answer.points.iter().map(point).collect::<Vec<Value>>(),
+    });
+    format!("{all}\n")
+}
+
+pub fn check(name: &Path) -> Done<String> {
+    let mut bytes = file::read(name)?;
+    open(name, &mut bytes)?;
+    Ok("good\n".to_string())
+}
+
+pub fn show(name: &Path) -> Done<String> {
+    let mut bytes = file::read(name)?;
+    let store = open(name, &mut bytes)?;
+    let image = store.image();
+    let rows = table::rows(image);
+    let mut out = bold(&format!("# schemas {}, rows {}, bytes {}\n", table::schemas(image), rows.len(), image.len()));
+    let names = ["schema", "tier", "series", "interval", "retention", "function", "slots", "used", "full ring"];
+    out.push_str(&bold(&format!(
+        "#{:>6} {:>4} {:>6} {:>9} {:>9} {:>8} {:>10} {:>10} {:>9}  {:30} {:30} {}\n",
+        names[0], names[1], names[2], names[3], names[4], names[5], names[6], names[7], names[8], "oldest", "newest",
+        "consolidated to",
+    )));
+    let end = |stamp: Option<u64>| stamp.map_or("-".to_string(), date);
+    for (i, row) in rows.iter().enumerate() {
+        let found = store.query(SeriesHandle::new(row.schema, 0), row.tier, 0, u64::MAX);
+        let (oldest, newest) = found.map_or((None, None), |answer| answer.available_range());
+        let wrapped = if store.flags() >> i & 1 == 1 { "yes" } else { "no" };
+        let _ = writeln!(
+            out,
+            "{:>7} {:>4} {:>6} {:>9} {:>9} {:>8} {:>10} {:>10} {wrapped:>9}  {:30} {:30} {}",
+            row.schema, row.tier, row.series, spoken(row.interval), spoken(row.retention), row.function_name(), row.slots(),
+            row.used(image), end(oldest), end(newest), end(Some(row.mark).filter(|mark| *mark != 0)),
+        );
+    }
+    Ok(out)
+}

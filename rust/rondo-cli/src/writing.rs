@@ -1,0 +1,208 @@
+//! The commands that write an image: create, record, import, consolidate.
+
+use std::fmt::Write;
+use std::io::{self, IsTerminal};
+use std::path::Path;
+
+use rondo::{Plan, Refusal, SeriesHandle, Store};
+
+use crate::failure::{Done, Failure, refusal};
+use crate::input::{self, Sample};
+use crate::table::{self, Row};
+use crate::{file, locate, planning, supposition, time, value};
+
+pub fn create(name: &Path, words: &[String]) -> Done<String> {
+    let plan = planning::read(words)?;
+    file::absent(name)?;
+    let bytes = fresh(name, &plan)?;
+    file::create(name, &bytes)?;
+    let mut report = format!("created, bytes: {}\n", bytes.len());
+    add_notes(&mut report, &supposition::of_plan(&bytes));
+    Ok(report)
+}
+
+/// A plan's fresh image.
+pub fn fresh(name: &Path, plan: &Plan) -> Done<Vec<u8>> {
+    let refused = |r: Refusal| refusal(r, &locate::plan(plan.as_bytes(), r));
+    let size = plan.image_size().map_err(refused)?;
+    let mut bytes = file::room(name, size)?;
+    bytes.resize(size as usize, 0);
+    Store::create(plan, &mut bytes).map_err(refused)?;
+    Ok(bytes)
+}
+
+fn add_notes(report: &mut String, notes: &[String]) {
+    if notes.is_empty() {
+        return;
+    }
+    report.push_str("the third demand does not cover this, because of:\n");
+    notes.iter().for_each(|note| report.push_str(&format!("  {note}\n")));
+}
+
+/// Opens an image's bytes, or says where they are damaged.
+pub fn open<'a>(name: &Path, bytes: &'a mut [u8]) -> Done<Store<'a>> {
+    match Store::open(bytes).map(|store| store.flags()) {
+        Ok(flags) => Ok(Store::resume(bytes, flags)),
+        Err(r) => Err(refusal(r, &locate::image(bytes, r)).after(name.display())),
+    }
+}
+
+pub fn record(name: &Path, words: &[&str], wait: u64) -> Done<String> {
+    file::regular(name)?;
+    let samples = samples(words)?;
+    let mut locked = file::lock(name, wait)?;
+    let mut bytes = locked.read()?;
+    let mut store = open(name, &mut bytes)?;
+    for sample in &samples {
+        store_sample(name, &mut store, sample)?;
+    }
+    locked.replace(&bytes)?;
+    Ok(format!("recorded, samples: {}\n", samples.len()))
+}
+
+fn samples(words: &[&str]) -> Done<Vec<Sample>> {
+    let now = time::now();
+    if words.is_empty() {
+        return input::standard(now);
+    }
+    Ok(vec![input::sample(words, now).map_err(Failure::usage)?])
+}
+
+fn store_sample(name: &Path, store: &mut Store, sample: &Sample) -> Done {
+    let handle = SeriesHandle::new(sample.schema, sample.column);
+    store.record(handle, sample.value, sample.stamp).map_err(|r| {
+        let why = match r {
+            Refusal::InvalidHandle => no_series(store.image(), handle),
+            Refusal::InvalidValue => format!("the value is {}; record nan where there is none", value::text(sample.value)),
+            Refusal::InvalidTimestamp => format!("the stamp is {}ns; stamps are above 0 and below 2^63 ns", sample.stamp),
+            other => locate::image(store.image(), other),
+        };
+        let failure = refusal(r, &why);
+        if sample.line == 0 {
+            return failure.after(name.display());
+        }
+        let failure = failure.after(format!("line {}", sample.line));
+        Failure { words: format!("{}; nothing is stored", failure.words), ..failure }
+    })
+}
+
+/// Which series there are instead of one that is not there.
+pub fn no_series(image: &[u8], handle: SeriesHandle) -> String {
+    let rows = table::rows(image);
+    let SeriesHandle { schema, column } = handle;
+    match rows.iter().find(|row| row.schema == schema) {
+        Some(row) => format!("schema {schema} has no column {column}; it has 0 to {}", row.series - 1),
+        None => format!("there is no schema {schema}; there are 0 to {}", table::schemas(image).saturating_sub(1)),
+    }
+}
+
+pub fn consolidate(name: &Path, wait: u64) -> Done<String> {
+    let mut locked = file::lock(name, wait)?;
+    let mut bytes = locked.read()?;
+    let mut store = open(name, &mut bytes)?;
+    let count = run(name, &mut store)?;
+    locked.replace(&bytes)?;
+    Ok(format!("consolidated, values written: {count}\n"))
+}
+
+fn run(name: &Path, store: &mut Store) -> Done<u64> {
+    store.consolidate().map_err(|r| {
+        let rows = table::rows(store.image());
+        let why = match r {
+            Refusal::NoConsolidationFunction => no_function(&rows),
+            Refusal::InvalidTimestamp => early(&rows),
+            Refusal::InvalidValue => "a window's sum is beyond the greatest number of 64 bits".to_string(),
+            other => locate::image(store.image(), other),
+        };
+        let failure = refusal(r, &why).after(name.display());
+        Failure { words: format!("{}; the file is as it was", failure.words), ..failure }
+    })
+}
+
+fn no_function(rows: &[Row]) -> String {
+    let found = rows.iter().enumerate().find(|(_, row)| row.tier > 0 && row.function == 0);
+    let (row, schema, tier) = found.map_or((0, 0, 0), |(i, row)| (i, row.schema, row.tier));
+    format!("row {row}, field function: schema {schema}, tier {tier} has none, so it cannot be made from the finer tier")
+}
+
+fn early(rows: &[Row]) -> String {
+    let coarsest = rows.iter().map(|row| row.interval).max().unwrap_or(0);
+    format!("a sample's window starts at 0; let stamps begin at the coarsest interval, {}, or later", time::spoken(coarsest))
+}
+
+pub fn import(name: &Path, wait: u64) -> Done<String> {
+    file::regular(name)?;
+    let mut samples = input::standard(time::now())?;
+    samples.sort_by_key(|sample| sample.stamp);
+    let mut locked = file::lock(name, wait)?;
+    let mut bytes = locked.read()?;
+    let mut store = open(name, &mut bytes)?;
+    let newest = newest(&store);
+    let mut notes = supposition::of_plan(store.image());
+    notes.extend(supposition::of_samples(store.image(), &newest, &samples));
+    let runs = in_order(name, &mut store, &samples, newest)?;
+    locked.replace(&bytes)?;
+    let mut report = String::new();
+    let _ = writeln!(report, "imported, samples: {}, runs: {runs}", samples.len());
+    add_notes(&mut report, &notes);
+    Ok(report)
+}
+
+/// The newest stamp of each schema's finest tier.
+fn newest(store: &Store) -> Vec<Option<u64>> {
+    let schemas = 0..table::schemas(store.image());
+    schemas.map(|s| store.query(SeriesHandle::new(s, 0), 0, 0, u64::MAX).ok().and_then(|a| a.newest())).collect()
+}
+
+/// Records the samples, and makes a run before each that begins a coarsest interval and at the end. Answers how many runs.
+fn in_order(name: &Path, store: &mut Store, samples: &[Sample], mut newest: Vec<Option<u64>>) -> Done<u64> {
+    let rows = table::rows(store.image());
+    let coarsest: Vec<u64> = (0..newest.len()).map(|s| table::tiers(&rows, s as u32).last().map_or(1, |t| t.interval)).collect();
+    let mut runs = 0;
+    let mut progress = Progress::new(samples.len());
+    for sample in samples {
+        let schema = sample.schema as usize;
+        if let (Some(Some(last)), Some(interval)) = (newest.get(schema), coarsest.get(schema))
+            && last / interval != sample.stamp / interval
+        {
+            run(name, store)?;
+            runs += 1;
+        }
+        store_sample(name, store, sample)?;
+        newest[schema] = Some(sample.stamp);
+        progress.step();
+    }
+    if !samples.is_empty() {
+        run(name, store)?;
+        runs += 1;
+    }
+    Ok(runs)
+}
+
+/// How far an import is, on a terminal.
+struct Progress {
+    shown: bool,
+    all: usize,
+    done: usize,
+}
+
+impl Progress {
+    fn new(all: usize) -> Self {
+        Progress { shown: io::stderr().is_terminal() && all > 10_000, all, done: 0 }
+    }
+
+    fn step(&mut self) {
+        self.done += 1;
+        if self.shown && self.done % (self.all / 100 + 1) == 0 {
+            eprint!("\rimporting: {} %", self.done * 100 / self.all);
+        }
+    }
+}
+
+impl Drop for Progress {
+    fn drop(&mut self) {
+        if self.shown {
+            eprint!("\r\x1b[K");
+        }
+    }
+}

@@ -1,0 +1,102 @@
+//! Damaged images: refused, with the place in words.
+
+mod shared;
+
+use std::fs;
+
+use shared::Folder;
+
+/// Two tiers of 60 slots: rows at 32 and 96, slabs at 160 and 1672.
+fn image() -> (Folder, Vec<u8>) {
+    let folder = Folder::new();
+    folder.good("create a.img series 2 tier 1s 1min tier 10s 10min average");
+    folder.good_with("record a.img", "0 0 10s 1\n0 1 11s 2\n0 0 19s 4\n");
+    folder.good("consolidate a.img");
+    let bytes = folder.bytes("a.img");
+    (folder, bytes)
+}
+
+fn damaged(folder: &Folder, good: &[u8], at: usize, bytes: &[u8]) {
+    let mut image = good.to_vec();
+    image[at..at + bytes.len()].copy_from_slice(bytes);
+    fs::write(folder.file("damaged.img"), image).unwrap();
+}
+
+#[test]
+fn each_field_is_named() {
+    let (folder, good) = image();
+    let fields: [(&str, usize, &[u8]); 25] = [
+        ("header, field magic", 0, b"X"),
+        ("header, field version", 4, &[2]),
+        ("header, field schema count", 8, &[9]),
+        ("header, field row count", 12, &[33]),
+        ("header, field total length", 16, &[1]),
+        ("header, field zero bytes", 24, &[1]),
+        ("row 0, field schema", 32, &[1]),
+        ("row 0, field tier", 36, &[1]),
+        ("row 0, field interval", 40, &[0; 8]),
+        ("row 0, field retention", 48, &[0; 8]),
+        ("row 1, field function", 120, &[7]),
+        ("row 1, field max series", 124, &[3]),
+        ("row 0, field slab offset", 64, &[1]),
+        ("row 0, field slab length", 72, &[1]),
+        ("row 0, field mark", 87, &[128]),
+        ("row 1, field schema hash", 152, &[1, 2]),
+        ("slab of row 0, field magic", 160, b"X"),
+        ("slab of row 0, field version", 164, &[2]),
+        ("slab of row 0, field hash", 168, &[1, 2]),
+        ("slab of row 0, field slots", 176, &[1]),
+        ("slab of row 0, field max series", 180, &[3]),
+        ("slab of row 0, field interval", 184, &[1]),
+        ("slab of row 0, field cursor", 192, &[255]),
+        ("slab of row 1, field magic", 1672, b"X"),
+        ("slab of row 1, field cursor", 1704, &[255]),
+    ];
+    for (words, at, bytes) in fields {
+        damaged(&folder, &good, at, bytes);
+        folder.bad(1, words, "check damaged.img");
+    }
+}
+
+#[test]
+fn every_byte_of_header_rows_and_slab_headers() {
+    let (folder, good) = image();
+    // not told: the low bytes of marks, and those of retentions that leave the slots as they are; a slab's free bytes
+    let told = |at: usize| match at {
+        48..=50 | 80..=86 | 112..=113 | 144..=150 => false,
+        _ => at < 196 || (1672..1708).contains(&at),
+    };
+    let mut refused = 0;
+    for at in (0..224).chain(1672..1736) {
+        damaged(&folder, &good, at, &[!good[at]]);
+        if told(at) {
+            folder.bad(1, "damaged.img: refusal ", "check damaged.img");
+            refused += 1;
+        } else {
+            assert_eq!(folder.good("check damaged.img"), "good\n", "byte {at}");
+        }
+    }
+    assert_eq!(refused, 196 - 3 - 7 - 2 - 7 + 36);
+}
+
+#[test]
+fn every_command_refuses_a_damaged_image() {
+    let (folder, good) = image();
+    for at in [0, 12, 16, 40, 64, 160, 1704] {
+        damaged(&folder, &good, at, &[!good[at]]);
+        for words in ["record damaged.img 0 0 20s 1", "consolidate damaged.img", "query damaged.img 0 0 0", "plot damaged.img 0 0 0",
+            "show damaged.img", "dump damaged.img", "import damaged.img"]
+        {
+            folder.bad(1, "damaged.img: refusal ", words);
+        }
+    }
+}
+
+#[test]
+fn a_stamp_that_is_too_late() {
+    let (folder, good) = image();
+    // slot 3's stamp in the finest ring: opening takes it, a run does not
+    damaged(&folder, &good, 160 + 64 + 8 + 8 * 3 + 7, &[0x80]);
+    assert_eq!(folder.good("check damaged.img"), "good\n");
+    folder.bad(1, "refusal 10, CorruptedSlab: slab of row 0, slot 3", "consolidate damaged.img");
+}

@@ -1,0 +1,286 @@
+//! Files: locked while written, replaced whole, whatever happens meanwhile.
+
+mod shared;
+
+use std::fs::{self, File};
+use std::os::unix::fs::{MetadataExt, PermissionsExt, symlink};
+use std::process::{Command, Stdio};
+use std::thread;
+use std::time::{Duration, Instant};
+
+use shared::{Folder, RONDO, Random, Said, check_bad, finish, leftovers, start};
+
+const PLAN: &str = "series 8 tier 1s 1h tier 1min 1d average";
+
+fn image() -> Folder {
+    let folder = Folder::new();
+    folder.good(&format!("create a.img {PLAN}"));
+    folder
+}
+
+fn writers(count: u64, each: u64) {
+    let folder = image();
+    thread::scope(|scope| {
+        for column in 0..count {
+            let folder = &folder;
+            scope.spawn(move || {
+                for i in 0..each {
+                    let said = folder.run(&format!("record a.img 0 {column} {}s {i} --wait 60s", 3600 + i));
+                    assert!(said.status == 0, "{said:?}");
+                }
+            });
+        }
+    });
+    for column in 0..count {
+        let expected: Vec<(u64, f64)> = (0..each).map(|i| ((3600 + i) * 1_000_000_000, i as f64)).collect();
+        assert_eq!(folder.points(&format!("a.img 0 {column} 0")), expected);
+    }
+    assert!(leftovers(&folder.path).is_empty());
+}
+
+#[test]
+fn two_writers_lose_nothing() {
+    writers(2, 50);
+}
+
+#[test]
+fn eight_writers_lose_nothing() {
+    writers(8, 20);
+}
+
+#[test]
+fn a_second_writer_waits_and_then_is_told() {
+    let folder = image();
+    let held = File::open(folder.file("a.img")).unwrap();
+    held.lock().unwrap();
+    let began = Instant::now();
+    for words in ["record a.img 0 0 10s 1 --wait 200ms", "consolidate a.img --wait 0s", "import a.img --wait 0s"] {
+        folder.bad(3, "another command has it locked", words);
+    }
+    assert!(began.elapsed() >= Duration::from_millis(200));
+    // reading needs no lock
+    assert_eq!(folder.good("check a.img"), "good\n");
+    let mut command = folder.command();
+    command.args(["record", "a.img", "0", "0", "10s", "1"]);
+    let waiting = start(command);
+    thread::sleep(Duration::from_millis(100));
+    drop(held);
+    assert_eq!(finish(waiting, b"").status, 0);
+    folder.bad(2, "--wait", "check a.img --wait 5");
+}
+
+#[test]
+fn killed_at_200_random_moments() {
+    let folder = image();
+    let lines: String = (3600..5400).map(|t| format!("0 0 {t}s 0\n")).collect();
+    folder.good_with("record a.img", &lines);
+    let record = |value: u64| {
+        let mut command = folder.command();
+        command.args(["record", "a.img", "0", "1", "3600s", &value.to_string()]).stdin(Stdio::null());
+        command.stdout(Stdio::null()).stderr(Stdio::null()).spawn().unwrap()
+    };
+    let began = Instant::now();
+    (1..=5).for_each(|value| assert!(record(value).wait().unwrap().success()));
+    let span = began.elapsed().as_micros() as u64 / 5 * 5 / 4 + 1;
+    let mut random = Random(7);
+    let (mut last, mut done) = (5.0, 0);
+    for value in 6..206 {
+        let mut child = record(value);
+        thread::sleep(Duration::from_micros(random.below(span)));
+        let _ = child.kill();
+        child.wait().unwrap();
+        assert_eq!(folder.good("check a.img"), "good\n");
+        let points = folder.points("a.img 0 1 0");
+        let found = points[0].1;
+        assert!(found == last || found == value as f64, "{found} after {last}, {value}");
+        done += u32::from(found != last);
+        last = found;
+    }
+    println!("of 200 killed commands {done} had replaced the file");
+    folder.good("record a.img 0 1 3600s 1000");
+    assert!(leftovers(&folder.path).is_empty(), "{:?}", leftovers(&folder.path));
+    assert_eq!(folder.points("a.img 0 0 0").len(), 1800);
+}
+
+#[test]
+fn leftovers_are_not_in_the_way_and_go() {
+    let folder = image();
+    // a writer that is stopped with its temporary file there, then killed
+    folder.good("record a.img 0 0 10s 1");
+    let mut seen = false;
+    for delay in (0..4000).step_by(20) {
+        let mut command = folder.command();
+        let mut child = command.args(["record", "a.img", "0", "0", "11s", "2"]).stdout(Stdio::null()).spawn().unwrap();
+        thread::sleep(Duration::from_micros(delay));
+        let _ = child.kill();
+        child.wait().unwrap();
+        if !leftovers(&folder.path).is_empty() {
+            seen = true;
+            break;
+        }
+    }
+    println!("a leftover was made by a kill: {seen}");
+    // one by hand, with the name that a writer gives
+    let name = leftovers(&folder.path).first().cloned().unwrap_or(".rondo-0000000000000000-1-0".to_string());
+    fs::write(folder.file(&name), "half").unwrap();
+    folder.good("record a.img 0 0 12s 3");
+    assert!(!seen || leftovers(&folder.path).is_empty());
+}
+
+#[test]
+fn mode_and_owner_are_kept() {
+    let folder = image();
+    let root = fs::metadata(&folder.path).unwrap().uid() == 0;
+    for mode in [0o600, 0o640, 0o666, 0o200 | 0o444] {
+        fs::set_permissions(folder.file("a.img"), fs::Permissions::from_mode(mode)).unwrap();
+        if root {
+            std::os::unix::fs::chown(folder.file("a.img"), Some(1234), Some(2345)).unwrap();
+        }
+        folder.good("record a.img 0 0 60s 1");
+        folder.good("consolidate a.img --wait 1s");
+        let kept = fs::metadata(folder.file("a.img")).unwrap();
+        assert_eq!(kept.mode() & 0o7777, mode);
+        assert!(!root || (kept.uid(), kept.gid()) == (1234, 2345));
+    }
+}
+
+#[test]
+fn links_are_followed() {
+    let folder = image();
+    fs::create_dir(folder.file("inner")).unwrap();
+    symlink("../a.img", folder.file("inner/link.img")).unwrap();
+    symlink("inner/link.img", folder.file("b.img")).unwrap();
+    folder.good("record b.img 0 0 10s 1");
+    assert!(fs::symlink_metadata(folder.file("b.img")).unwrap().is_symlink());
+    assert!(fs::symlink_metadata(folder.file("inner/link.img")).unwrap().is_symlink());
+    assert_eq!(folder.points("a.img 0 0 0"), [(10_000_000_000, 1.0)]);
+    // a new file through a link
+    symlink("inner/new.img", folder.file("new.img")).unwrap();
+    folder.good(&format!("create new.img {PLAN}"));
+    assert!(folder.file("inner/new.img").is_file());
+    folder.bad(3, "exists already", &format!("create new.img {PLAN}"));
+}
+
+#[test]
+fn read_only_is_refused() {
+    let folder = image();
+    fs::set_permissions(folder.file("a.img"), fs::Permissions::from_mode(0o444)).unwrap();
+    folder.bad(3, "", "record a.img 0 0 10s 1");
+    folder.bad(3, "", "consolidate a.img");
+    assert_eq!(folder.good("check a.img"), "good\n");
+}
+
+#[test]
+fn files_that_are_no_images() {
+    let folder = image();
+    let good = folder.bytes("a.img");
+    fs::create_dir(folder.file("folder")).unwrap();
+    fs::write(folder.file("empty.img"), "").unwrap();
+    for (name, length) in [("short.img", 31), ("rows.img", 100), ("cut.img", good.len() - 1)] {
+        fs::write(folder.file(name), &good[..length]).unwrap();
+    }
+    for command in ["consolidate", "show", "check", "dump", "import", "record 0 0 20s 1", "query 0 0 0", "plot 0 0 0"] {
+        let (first, rest) = command.split_once(' ').unwrap_or((command, ""));
+        folder.bad(3, "nothing.img: No such file or directory", &format!("{first} nothing.img {rest}"));
+        folder.bad(3, "folder: Is a directory", &format!("{first} folder {rest}"));
+        folder.bad(3, "/dev/null: is not a file", &format!("{first} /dev/null {rest}"));
+        for name in ["empty.img", "short.img", "rows.img", "cut.img"] {
+            folder.bad(1, &format!("{name}: refusal 1, BadImage"), &format!("{first} {name} {rest}"));
+        }
+    }
+    folder.bad(3, "a.img: exists already", &format!("create a.img {PLAN}"));
+    folder.bad(3, "exists already", &format!("create folder {PLAN}"));
+    folder.bad(3, "No such file or directory", &format!("create nowhere/b.img {PLAN}"));
+    // bytes past the image stay
+    fs::write(folder.file("long.img"), [&good[..], b"surplus"].concat()).unwrap();
+    folder.good("record long.img 0 0 10s 1");
+    assert!(folder.bytes("long.img").ends_with(b"surplus"));
+}
+
+#[test]
+fn names_of_every_kind() {
+    let folder = Folder::new();
+    let long = "n".repeat(255);
+    for name in ["with space.img", "-dash.img", "ünï.img", &long] {
+        let plan = ["series", "1", "tier", "1s", "9s"];
+        let words: Vec<&str> = ["create", "--", name].into_iter().chain(plan).collect();
+        assert_eq!(folder.run_words(&words, b"").status, 0, "{name}");
+        assert_eq!(folder.run_words(&["record", "--", name, "0", "0", "5s", "-1"], b"").status, 0, "{name}");
+        assert_eq!(folder.run_words(&["check", "--", name], b"").out, "good\n");
+    }
+}
+
+#[test]
+fn rights_of_another_user() {
+    let folder = image();
+    fs::copy(RONDO, folder.file("rondo")).unwrap();
+    fs::set_permissions(folder.file("a.img"), fs::Permissions::from_mode(0o000)).unwrap();
+    fs::copy(RONDO, folder.file("b.img")).unwrap();
+    let as_other = |words: &[&str]| -> Said {
+        let mut command = Command::new("setpriv");
+        command.args(["--reuid=65534", "--regid=65534", "--clear-groups", "./rondo"]).args(words).current_dir(&folder.path);
+        finish(start(command), b"")
+    };
+    if as_other(&["version"]).status != 0 {
+        println!("not tried: the command cannot be run as another user");
+        return;
+    }
+    for words in [&["check", "a.img"][..], &["record", "a.img", "0", "0", "10s", "1"]] {
+        check_bad(&as_other(words), 3, "a.img: Permission denied", words);
+    }
+    // the file may be written, its folder not
+    fs::set_permissions(folder.file("a.img"), fs::Permissions::from_mode(0o666)).unwrap();
+    let words = ["record", "a.img", "0", "0", "10s", "1"];
+    check_bad(&as_other(&words), 3, "Permission denied", &words);
+    let words = ["create", "c.img", "series", "1", "tier", "1s", "9s"];
+    check_bad(&as_other(&words), 3, "Permission denied", &words);
+    // its folder too, but its owner could not be kept
+    fs::set_permissions(&folder.path, fs::Permissions::from_mode(0o777)).unwrap();
+    let words = ["record", "a.img", "0", "0", "10s", "1"];
+    check_bad(&as_other(&words), 3, "not permitted", &words);
+    assert!(leftovers(&folder.path).is_empty());
+}
+
+#[test]
+fn output_that_fails() {
+    let folder = image();
+    for words in [&["check", "a.img"][..], &["record", "a.img", "0", "0", "10s", "1"], &["help"], &["man"]] {
+        let mut command = folder.command();
+        let full = fs::OpenOptions::new().write(true).open("/dev/full").unwrap();
+        let done = command.args(words).stdin(Stdio::null()).stdout(full).output().unwrap();
+        let err = String::from_utf8(done.stderr).unwrap();
+        assert_eq!(done.status.code(), Some(3), "{words:?}: {err}");
+        assert!(err.contains("standard output: No space left on device") && err.lines().count() == 1, "{err}");
+    }
+    // a reader that goes away
+    let mut command = folder.command();
+    let mut child = command.args(["completions", "bash"]).stdout(Stdio::piped()).stderr(Stdio::piped()).spawn().unwrap();
+    drop(child.stdout.take());
+    let done = child.wait_with_output().unwrap();
+    assert!(done.stderr.is_empty());
+}
+
+#[test]
+fn a_full_disk() {
+    let folder = Folder::new();
+    fs::create_dir(folder.file("disk")).unwrap();
+    let mount = Command::new("mount").args(["-t", "tmpfs", "-o", "size=1m", "none"]).arg(folder.file("disk")).output();
+    if !mount.is_ok_and(|m| m.status.success()) {
+        println!("not tried: no disk can be mounted");
+        return;
+    }
+    let tried = std::panic::catch_unwind(|| {
+        folder.good("create disk/a.img series 8 tier 1s 9000s");
+        let before = folder.bytes("disk/a.img");
+        for words in ["record disk/a.img 0 0 10s 1", "consolidate disk/a.img", "create disk/b.img series 8 tier 1s 9000s"] {
+            folder.bad(3, "No space left on device", words);
+            assert!(leftovers(&folder.file("disk")).is_empty());
+            assert!(!folder.file("disk/b.img").exists());
+            assert!(folder.bytes("disk/a.img") == before);
+        }
+        let dump = folder.good("dump disk/a.img");
+        folder.bad_with(3, "No space left on device", "restore disk/b.img", &dump);
+    });
+    let _ = Command::new("umount").arg(folder.file("disk")).status();
+    tried.unwrap();
+}
