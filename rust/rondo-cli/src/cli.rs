@@ -67,7 +67,7 @@ pub enum Command {
     Plot {
         #[command(flatten)]
         asked: Asked,
-        /// Draws into a new picture, by its ending: .svg or .png
+        /// Draws into a picture, by its ending: .svg or .png
         #[arg(long, value_name = "PICTURE")]
         out: Option<PathBuf>,
     },

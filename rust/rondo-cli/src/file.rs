@@ -148,6 +148,14 @@ pub fn create(name: &Path, bytes: &[u8]) -> Done {
     sync_folder(name, folder)
 }
 
+/// Makes a file, or replaces the one of that name.
+pub fn put(name: &Path, bytes: &[u8], wait: u64) -> Done {
+    match fs::metadata(name) {
+        Ok(_) => lock(name, wait)?.replace(bytes),
+        Err(_) => create(name, bytes),
+    }
+}
+
 fn exists(name: &Path) -> Failure {
     Failure::file(name, "exists already; remove it first, or choose another name")
 }

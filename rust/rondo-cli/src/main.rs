@@ -6,13 +6,17 @@ mod cli;
 mod dump;
 mod failure;
 mod file;
+mod font;
 mod input;
 mod locate;
 mod manual;
+mod picture;
 mod planning;
 mod plot;
+mod png;
 mod reading;
 mod supposition;
+mod svg;
 mod table;
 mod time;
 mod value;
@@ -78,7 +82,7 @@ fn carry_out(cli: &Cli) -> Done<String> {
             let form = if *csv { Form::Csv } else if *json { Form::Json } else { Form::Table };
             reading::query(asked, form)
         }
-        Command::Plot { asked, out } => plot::plot(asked, out.as_deref()),
+        Command::Plot { asked, out } => plot::plot(asked, out.as_deref(), cli.wait),
         Command::Show { file } => reading::show(file),
         Command::Check { file } => reading::check(file),
         Command::Dump { file } => dump::dump(file),

@@ -3,10 +3,11 @@
 use std::path::Path;
 
 use crate::cli::Asked;
-use crate::failure::Done;
+use crate::failure::{Done, Failure};
+use crate::picture::{self, Shape};
 use crate::reading::{Answer, ask, bold, heading};
 use crate::time::date;
-use crate::value;
+use crate::{file, png, svg, value};
 
 const WIDTH: usize = 64;
 const HEIGHT: usize = 16;
@@ -42,10 +43,28 @@ impl Ends {
     }
 }
 
-pub fn plot(asked: &Asked, _out: Option<&Path>) -> Done<String> {
+/// Draws a series: as text, or into a picture.
+pub fn plot(asked: &Asked, out: Option<&Path>, wait: u64) -> Done<String> {
+    let encoded = match out {
+        None => None,
+        Some(name) => Some((name, encoder(name)?)),
+    };
     let mut answer = ask(asked)?;
     answer.points.retain(|(_, v)| v.is_finite());
-    Ok(drawn(&answer))
+    let Some((name, encoded)) = encoded else { return Ok(drawn(&answer)) };
+    let title = format!("schema {}, column {}, tier {}, points: {}", asked.schema, asked.column, answer.tier, answer.points.len());
+    let bytes = encoded(&picture::shapes(&title, &answer.points));
+    file::put(name, &bytes, wait)?;
+    Ok(format!("drawn, points: {}\n", answer.points.len()))
+}
+
+/// How a picture is written, by its name's ending.
+fn encoder(name: &Path) -> Done<fn(&[Shape]) -> Vec<u8>> {
+    match name.extension().and_then(|e| e.to_str()) {
+        Some("svg") => Ok(svg::encoded),
+        Some("png") => Ok(png::encoded),
+        _ => Err(Failure::usage(format!("{}: a picture's name ends with .svg or .png", name.display()))),
+    }
 }
 
 /// The plot as text.

@@ -151,6 +151,24 @@ fn plot_in_the_terminal() {
 }
 
 #[test]
+fn plot_into_a_picture() {
+    let folder = filled();
+    for _ in 0..2 {
+        assert_eq!(folder.good("plot a.img 0 0 0 --out p.svg"), "drawn, points: 3\n");
+        assert_eq!(folder.good("plot a.img 0 0 0 --out p.png"), "drawn, points: 3\n");
+    }
+    let svg = String::from_utf8(folder.bytes("p.svg")).unwrap();
+    assert_eq!((svg.matches("<circle").count(), svg.matches("</svg>").count()), (3, 1));
+    assert!(svg.contains(">1970-01-01T00:00:10Z<") && svg.contains(">-1.5<"));
+    let png = folder.bytes("p.png");
+    assert!(png.starts_with(b"\x89PNG") && png.ends_with(b"IEND\xaeB`\x82"));
+    folder.good("plot a.img 0 0 0 50s 60s --out empty.png");
+    folder.bad(2, "ends with .svg or .png", "plot a.img 0 0 0 --out a.img");
+    folder.bad(3, "No such file or directory", "plot a.img 0 0 0 --out nowhere/p.svg");
+    folder.bad(1, "refusal 14", "plot a.img 0 0 9 --out q.svg");
+}
+
+#[test]
 fn man_page_and_completions() {
     let folder = Folder::new();
     let page = folder.good("man");
