@@ -67,7 +67,9 @@ pub fn restore(name: &Path) -> Done<String> {
     let text = input::text()?;
     if text.lines().last() != Some("end") {
         let line = text.lines().count();
-        return Err(Failure::refused(format!("line {line}: the dump is cut short, its last line is not end; nothing is stored")));
+        return Err(Failure::refused(format!(
+            "line {line}: the dump is cut short, its last line is not end; nothing is stored"
+        )));
     }
     let mut bytes = built(name, &text)?;
     if let Err(r) = Store::open(&mut bytes) {

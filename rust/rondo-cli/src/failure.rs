@@ -41,6 +41,12 @@ impl Failure {
         self.words = format!("{place}: {}", self.words);
         self
     }
+
+    /// The same with words behind it.
+    pub fn and(mut self, words: &str) -> Self {
+        self.words = format!("{}; {words}", self.words);
+        self
+    }
 }
 
 /// A system's error as people know it: "No such file or directory".

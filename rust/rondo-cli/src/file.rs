@@ -112,7 +112,7 @@ impl Locked {
 
     /// Puts a new file with these bytes in the place of the image: whole, or not at all.
     pub fn replace(self, bytes: &[u8]) -> Done {
-        let fail = |e: io::Error| Failure::system(&self.name, &e).after("nothing is changed");
+        let fail = |e: io::Error| Failure::system(&self.name, &e).and("the file is as it was");
         let folder = folder_of(&self.real);
         remove_leftovers(folder, &self.real);
         let old = self.file.metadata().map_err(fail)?;
@@ -185,7 +185,7 @@ fn folder_of(path: &Path) -> &Path {
 
 fn sync_folder(name: &Path, folder: &Path) -> Done {
     let synced = File::open(folder).and_then(|f| f.sync_all());
-    synced.map_err(|e| Failure::system(name, &e).after("written, and its folder could not be synced"))
+    synced.map_err(|e| Failure::system(name, &e).and("the file is written, and its folder could not be synced"))
 }
 
 /// How the names of an image's temporary files begin: short, whatever the image's name.

@@ -7,6 +7,7 @@ mod dump;
 mod failure;
 mod file;
 mod font;
+mod import;
 mod input;
 mod locate;
 mod manual;
@@ -76,10 +77,16 @@ fn carry_out(cli: &Cli) -> Done<String> {
     match &cli.command {
         Command::Create { file, plan } => writing::create(file, plan),
         Command::Record { file, sample } => writing::record(file, &sample.words(), cli.wait),
-        Command::Import { file } => writing::import(file, cli.wait),
+        Command::Import { file } => import::import(file, cli.wait),
         Command::Consolidate { file } => writing::consolidate(file, cli.wait),
         Command::Query { asked, csv, json } => {
-            let form = if *csv { Form::Csv } else if *json { Form::Json } else { Form::Table };
+            let form = if *csv {
+                Form::Csv
+            } else if *json {
+                Form::Json
+            } else {
+                Form::Table
+            };
             reading::query(asked, form)
         }
         Command::Plot { asked, out } => plot::plot(asked, out.as_deref(), cli.wait),

@@ -52,14 +52,17 @@ pub fn plot(asked: &Asked, out: Option<&Path>, wait: u64) -> Done<String> {
     let mut answer = ask(asked)?;
     answer.points.retain(|(_, v)| v.is_finite());
     let Some((name, encoded)) = encoded else { return Ok(drawn(&answer)) };
-    let title = format!("schema {}, column {}, tier {}, points: {}", asked.schema, asked.column, answer.tier, answer.points.len());
+    let title =
+        format!("schema {}, column {}, tier {}, points: {}", asked.schema, asked.column, answer.tier, answer.points.len());
     let bytes = encoded(&picture::shapes(&title, &answer.points));
     file::put(name, &bytes, wait)?;
     Ok(format!("drawn, points: {}\n", answer.points.len()))
 }
 
+type Encoder = fn(&[Shape]) -> Vec<u8>;
+
 /// How a picture is written, by its name's ending.
-fn encoder(name: &Path) -> Done<fn(&[Shape]) -> Vec<u8>> {
+fn encoder(name: &Path) -> Done<Encoder> {
     match name.extension().and_then(|e| e.to_str()) {
         Some("svg") => Ok(svg::encoded),
         Some("png") => Ok(png::encoded),
@@ -103,6 +106,10 @@ fn axis(ends: &Ends, points: usize) -> String {
     let middle = date(first + (last - first) / 2);
     let half = WIDTH / 2 - 1;
     let marks = format!("{:24} ++{}+{}+\n", "", "-".repeat(half - 1), "-".repeat(WIDTH - half - 2));
-    format!("{marks}{:26}{left}{}{right}\n{:26}middle {middle}, {points} points\n", "",
-        " ".repeat(WIDTH.saturating_sub(left.len() + right.len()).max(1)), "")
+    format!(
+        "{marks}{:26}{left}{}{right}\n{:26}middle {middle}, {points} points\n",
+        "",
+        " ".repeat(WIDTH.saturating_sub(left.len() + right.len()).max(1)),
+        ""
+    )
 }

@@ -149,7 +149,17 @@ pub fn show(name: &Path) -> Done<String> {
     let names = ["schema", "tier", "series", "interval", "retention", "function", "slots", "used", "full ring"];
     out.push_str(&bold(&format!(
         "#{:>6} {:>4} {:>6} {:>9} {:>9} {:>8} {:>10} {:>10} {:>9}  {:30} {:30} {}\n",
-        names[0], names[1], names[2], names[3], names[4], names[5], names[6], names[7], names[8], "oldest", "newest",
+        names[0],
+        names[1],
+        names[2],
+        names[3],
+        names[4],
+        names[5],
+        names[6],
+        names[7],
+        names[8],
+        "oldest",
+        "newest",
         "consolidated to",
     )));
     let end = |stamp: Option<u64>| stamp.map_or("-".to_string(), date);
@@ -160,8 +170,17 @@ pub fn show(name: &Path) -> Done<String> {
         let _ = writeln!(
             out,
             "{:>7} {:>4} {:>6} {:>9} {:>9} {:>8} {:>10} {:>10} {wrapped:>9}  {:30} {:30} {}",
-            row.schema, row.tier, row.series, spoken(row.interval), spoken(row.retention), row.function_name(), row.slots(),
-            row.used(image), end(oldest), end(newest), end(Some(row.mark).filter(|mark| *mark != 0)),
+            row.schema,
+            row.tier,
+            row.series,
+            spoken(row.interval),
+            spoken(row.retention),
+            row.function_name(),
+            row.slots(),
+            row.used(image),
+            end(oldest),
+            end(newest),
+            end(Some(row.mark).filter(|mark| *mark != 0)),
         );
     }
     Ok(out)

@@ -49,6 +49,22 @@ fn of_ring(row: &Row, coarsest: u64) -> Option<String> {
     })
 }
 
+/// Coarsest intervals that samples in the image have passed without a run: the mark says when the last one was.
+pub fn of_runs(image: &[u8], newest: &[Option<u64>]) -> Vec<String> {
+    let rows = table::rows(image);
+    let mut notes = Vec::new();
+    for (schema, newest) in (0..).zip(newest) {
+        let tiers = table::tiers(&rows, schema);
+        let (Some(newest), [finest, .., coarsest]) = (newest, &tiers[..]) else { continue };
+        let (passed, run) = (newest / coarsest.interval, finest.mark / coarsest.interval);
+        if finest.mark == 0 && finest.used(image) > 0 && passed > 0 || finest.mark != 0 && passed > run + 1 {
+            let last = if finest.mark == 0 { "none".to_string() } else { date(finest.mark) };
+            notes.push(format!("schema {schema}: coarsest intervals before this import had no run (last run: {last})"));
+        }
+    }
+    notes
+}
+
 /// What was seen of one column.
 struct Column {
     next: u64,
@@ -93,9 +109,15 @@ fn start(faults: &mut Faults, first: &Sample, newest: Option<u64>, finest: u64, 
             first.stamp - first.stamp % finest
         }
         // a tick that the image began may go on in another column
-        Some(newest) => if first.stamp == newest { newest } else { newest.saturating_add(finest) },
+        Some(newest) => {
+            if first.stamp == newest {
+                newest
+            } else {
+                newest.saturating_add(finest)
+            }
+        }
         None => {
-            if first.stamp % coarsest != 0 {
+            if !first.stamp.is_multiple_of(coarsest) {
                 faults.add("first samples that are not at a multiple of the coarsest interval", 1, place(first));
             }
             first.stamp - first.stamp % finest

@@ -20,7 +20,9 @@ fn add(out: &mut String, shape: &Shape) {
             let (x1, y1, x2, y2) = (from.0, from.1, to.0, to.1);
             writeln!(out, "<line x1=\"{x1}\" y1=\"{y1}\" x2=\"{x2}\" y2=\"{y2}\" stroke=\"{}\"/>", name(*colour))
         }
-        Shape::Dot { at } => writeln!(out, "<circle cx=\"{}\" cy=\"{}\" r=\"1.5\" fill=\"{}\"/>", at.0, at.1, name(Colour::Curve)),
+        Shape::Dot { at } => {
+            writeln!(out, "<circle cx=\"{}\" cy=\"{}\" r=\"1.5\" fill=\"{}\"/>", at.0, at.1, name(Colour::Curve))
+        }
         Shape::Text { at, anchor, text } => {
             let anchor = match anchor {
                 Anchor::Start => "start",

@@ -26,7 +26,7 @@ pub fn stamp(text: &str, now: u64) -> Result<u64, String> {
     if let Some(rest) = text.strip_prefix("now") {
         return from_now(rest, now);
     }
-    if text.len() > 10 && text.as_bytes()[4] == b'-' {
+    if text.len() >= 8 && text.as_bytes()[4] == b'-' {
         return calendar(text);
     }
     span(text)
@@ -86,7 +86,7 @@ fn scaled(number: &str, size: u64) -> Result<u64, String> {
 
 /// A span in the largest unit that it is a whole number of.
 pub fn spoken(ns: u64) -> String {
-    let unit = UNITS.iter().find(|(_, size)| ns != 0 && ns % size == 0);
+    let unit = UNITS.iter().find(|(_, size)| ns != 0 && ns.is_multiple_of(*size));
     let (name, size) = unit.unwrap_or(&UNITS[6]);
     format!("{}{name}", ns / size)
 }
@@ -125,8 +125,29 @@ mod tests {
 
     #[test]
     fn refuses() {
-        let none = ["", "5", "soon", "5x", "5m", "-5s", "1.5ns", "s", "1.s", ".5s", "1.2.3s", "213504d", "now-", "now5s", "now-9h",
-            "18446744073709551616ns", "1969-12-31T23:59:59Z", "2026-13-01T00:00:00Z", "2026-11-17", "2026-11-17T00:00:00", "éééééééé"];
+        let none = [
+            "",
+            "5",
+            "soon",
+            "5x",
+            "5m",
+            "-5s",
+            "1.5ns",
+            "s",
+            "1.s",
+            ".5s",
+            "1.2.3s",
+            "213504d",
+            "now-",
+            "now5s",
+            "now-9h",
+            "18446744073709551616ns",
+            "1969-12-31T23:59:59Z",
+            "2026-13-01T00:00:00Z",
+            "2026-11-17",
+            "2026-11-17T00:00:00",
+            "éééééééé",
+        ];
         for text in none {
             assert!(stamp(text, 3_600_000_000_000).is_err(), "{text}");
         }

@@ -1,7 +1,5 @@
-//! The commands that write an image: create, record, import, consolidate.
+//! The commands that write an image: create, record, consolidate; what import shares with them.
 
-use std::fmt::Write;
-use std::io::{self, IsTerminal};
 use std::path::Path;
 
 use rondo::{Plan, Refusal, SeriesHandle, Store};
@@ -31,7 +29,8 @@ pub fn fresh(name: &Path, plan: &Plan) -> Done<Vec<u8>> {
     Ok(bytes)
 }
 
-fn add_notes(report: &mut String, notes: &[String]) {
+/// Adds what is not covered to a report.
+pub fn add_notes(report: &mut String, notes: &[String]) {
     if notes.is_empty() {
         return;
     }
@@ -68,7 +67,8 @@ fn samples(words: &[&str]) -> Done<Vec<Sample>> {
     Ok(vec![input::sample(words, now).map_err(Failure::usage)?])
 }
 
-fn store_sample(name: &Path, store: &mut Store, sample: &Sample) -> Done {
+/// Records a sample, or says why it is refused.
+pub fn store_sample(name: &Path, store: &mut Store, sample: &Sample) -> Done {
     let handle = SeriesHandle::new(sample.schema, sample.column);
     store.record(handle, sample.value, sample.stamp).map_err(|r| {
         let why = match r {
@@ -77,12 +77,10 @@ fn store_sample(name: &Path, store: &mut Store, sample: &Sample) -> Done {
             Refusal::InvalidTimestamp => format!("the stamp is {}ns; stamps are above 0 and below 2^63 ns", sample.stamp),
             other => locate::image(store.image(), other),
         };
-        let failure = refusal(r, &why);
-        if sample.line == 0 {
-            return failure.after(name.display());
+        match sample.line {
+            0 => refusal(r, &why).after(name.display()),
+            line => refusal(r, &why).after(format!("line {line}")).and("nothing is stored"),
         }
-        let failure = failure.after(format!("line {}", sample.line));
-        Failure { words: format!("{}; nothing is stored", failure.words), ..failure }
     })
 }
 
@@ -105,7 +103,8 @@ pub fn consolidate(name: &Path, wait: u64) -> Done<String> {
     Ok(format!("consolidated, values written: {count}\n"))
 }
 
-fn run(name: &Path, store: &mut Store) -> Done<u64> {
+/// Brings the coarser tiers up to date, or says why that is refused.
+pub fn run(name: &Path, store: &mut Store) -> Done<u64> {
     store.consolidate().map_err(|r| {
         let rows = table::rows(store.image());
         let why = match r {
@@ -114,8 +113,7 @@ fn run(name: &Path, store: &mut Store) -> Done<u64> {
             Refusal::InvalidValue => "a window's sum is beyond the greatest number of 64 bits".to_string(),
             other => locate::image(store.image(), other),
         };
-        let failure = refusal(r, &why).after(name.display());
-        Failure { words: format!("{}; the file is as it was", failure.words), ..failure }
+        refusal(r, &why).after(name.display()).and("the file is as it was")
     })
 }
 
@@ -128,81 +126,4 @@ fn no_function(rows: &[Row]) -> String {
 fn early(rows: &[Row]) -> String {
     let coarsest = rows.iter().map(|row| row.interval).max().unwrap_or(0);
     format!("a sample's window starts at 0; let stamps begin at the coarsest interval, {}, or later", time::spoken(coarsest))
-}
-
-pub fn import(name: &Path, wait: u64) -> Done<String> {
-    file::regular(name)?;
-    let mut samples = input::standard(time::now())?;
-    samples.sort_by_key(|sample| sample.stamp);
-    let mut locked = file::lock(name, wait)?;
-    let mut bytes = locked.read()?;
-    let mut store = open(name, &mut bytes)?;
-    let newest = newest(&store);
-    let mut notes = supposition::of_plan(store.image());
-    notes.extend(supposition::of_samples(store.image(), &newest, &samples));
-    let runs = in_order(name, &mut store, &samples, newest)?;
-    locked.replace(&bytes)?;
-    let mut report = String::new();
-    let _ = writeln!(report, "imported, samples: {}, runs: {runs}", samples.len());
-    add_notes(&mut report, &notes);
-    Ok(report)
-}
-
-/// The newest stamp of each schema's finest tier.
-fn newest(store: &Store) -> Vec<Option<u64>> {
-    let schemas = 0..table::schemas(store.image());
-    schemas.map(|s| store.query(SeriesHandle::new(s, 0), 0, 0, u64::MAX).ok().and_then(|a| a.newest())).collect()
-}
-
-/// Records the samples, and makes a run before each that begins a coarsest interval and at the end. Answers how many runs.
-fn in_order(name: &Path, store: &mut Store, samples: &[Sample], mut newest: Vec<Option<u64>>) -> Done<u64> {
-    let rows = table::rows(store.image());
-    let coarsest: Vec<u64> = (0..newest.len()).map(|s| table::tiers(&rows, s as u32).last().map_or(1, |t| t.interval)).collect();
-    let mut runs = 0;
-    let mut progress = Progress::new(samples.len());
-    for sample in samples {
-        let schema = sample.schema as usize;
-        if let (Some(Some(last)), Some(interval)) = (newest.get(schema), coarsest.get(schema))
-            && last / interval != sample.stamp / interval
-        {
-            run(name, store)?;
-            runs += 1;
-        }
-        store_sample(name, store, sample)?;
-        newest[schema] = Some(sample.stamp);
-        progress.step();
-    }
-    if !samples.is_empty() {
-        run(name, store)?;
-        runs += 1;
-    }
-    Ok(runs)
-}
-
-/// How far an import is, on a terminal.
-struct Progress {
-    shown: bool,
-    all: usize,
-    done: usize,
-}
-
-impl Progress {
-    fn new(all: usize) -> Self {
-        Progress { shown: io::stderr().is_terminal() && all > 10_000, all, done: 0 }
-    }
-
-    fn step(&mut self) {
-        self.done += 1;
-        if self.shown && self.done % (self.all / 100 + 1) == 0 {
-            eprint!("\rimporting: {} %", self.done * 100 / self.all);
-        }
-    }
-}
-
-impl Drop for Progress {
-    fn drop(&mut self) {
-        if self.shown {
-            eprint!("\r\x1b[K");
-        }
-    }
 }

@@ -84,7 +84,12 @@ fn times() {
     folder.bad(2, "one of ns us ms s min h d", "record a.img 0 0 5 1");
     folder.bad(2, "one of ns us ms s min h d", "query a.img 0 0 0 5 6s");
     folder.bad(2, "one of ns us ms s min h d", "create b.img series 1 tier 1 1h");
-    folder.bad_with(1, "line 1: STAMP cannot be read from '5': a number needs its unit, one of ns us ms s min h d", "record a.img", "0 0 5 1");
+    folder.bad_with(
+        1,
+        "line 1: STAMP cannot be read from '5': a number needs its unit, one of ns us ms s min h d",
+        "record a.img",
+        "0 0 5 1",
+    );
 }
 
 #[test]
@@ -172,7 +177,8 @@ fn plot_into_a_picture() {
 fn man_page_and_completions() {
     let folder = Folder::new();
     let page = folder.good("man");
-    for command in ["create", "record", "import", "consolidate", "query", "plot", "show", "check", "dump", "restore", "version"] {
+    for command in ["create", "record", "import", "consolidate", "query", "plot", "show", "check", "dump", "restore", "version"]
+    {
         assert!(page.contains(&format!(".SS {command}\n")), "{command}");
         for shell in ["bash", "zsh", "fish"] {
             assert!(folder.good(&format!("completions {shell}")).contains(command));
@@ -227,7 +233,9 @@ fn text_for_a_number() {
 #[test]
 fn refusals_of_calls() {
     let folder = filled();
-    for words in ["record a.img 1 0 20s 1", "record a.img 0 2 20s 1", "record a.img 4294967296 0 20s 1", "query a.img 0 4294967296 0"] {
+    for words in
+        ["record a.img 1 0 20s 1", "record a.img 0 2 20s 1", "record a.img 4294967296 0 20s 1", "query a.img 0 4294967296 0"]
+    {
         folder.bad(1, "a.img: refusal 11, InvalidHandle: ", words);
     }
     for value in ["0x7ff0000000000000", "0xfff0000000000000", "inf", "-inf"] {
@@ -305,7 +313,10 @@ fn create_says_where_a_plan_is_not_covered() {
     assert!(said.contains("tier 0: its ring spans 1h, below two coarsest intervals, 2h"), "{said}");
     assert_eq!(said.lines().count(), 3);
     let said = folder.good("create max.img series 1 tier 2s 10min tier 5s 10min max");
-    assert!(said.contains("5s, is not a whole 2 to 4096 times the finer tier's, 2s") && said.contains("max, not average"), "{said}");
+    assert!(
+        said.contains("5s, is not a whole 2 to 4096 times the finer tier's, 2s") && said.contains("max, not average"),
+        "{said}"
+    );
     let said = folder.good("create two.img series 1 tier 1s 1min schema series 1 tier 1s 1min tier 10s 1min average");
     assert!(said.contains("one schema, and there are 2") && said.contains("schema 0: it has 1 tiers"), "{said}");
 }

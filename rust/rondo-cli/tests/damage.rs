@@ -4,7 +4,7 @@ mod shared;
 
 use std::fs;
 
-use shared::Folder;
+use shared::{Folder, Random};
 
 /// Two tiers of 60 slots: rows at 32 and 96, slabs at 160 and 1672.
 fn image() -> (Folder, Vec<u8>) {
@@ -84,9 +84,15 @@ fn every_command_refuses_a_damaged_image() {
     let (folder, good) = image();
     for at in [0, 12, 16, 40, 64, 160, 1704] {
         damaged(&folder, &good, at, &[!good[at]]);
-        for words in ["record damaged.img 0 0 20s 1", "consolidate damaged.img", "query damaged.img 0 0 0", "plot damaged.img 0 0 0",
-            "show damaged.img", "dump damaged.img", "import damaged.img"]
-        {
+        for words in [
+            "record damaged.img 0 0 20s 1",
+            "consolidate damaged.img",
+            "query damaged.img 0 0 0",
+            "plot damaged.img 0 0 0",
+            "show damaged.img",
+            "dump damaged.img",
+            "import damaged.img",
+        ] {
             folder.bad(1, "damaged.img: refusal ", words);
         }
     }
@@ -99,4 +105,31 @@ fn a_stamp_that_is_too_late() {
     damaged(&folder, &good, 160 + 64 + 8 + 8 * 3 + 7, &[0x80]);
     assert_eq!(folder.good("check damaged.img"), "good\n");
     folder.bad(1, "refusal 10, CorruptedSlab: slab of row 0, slot 3", "consolidate damaged.img");
+}
+
+#[test]
+fn whatever_stands_in_the_table_no_command_falls_over() {
+    let (folder, good) = image();
+    let mut random = Random(11);
+    let mut taken = 0;
+    for _ in 0..150 {
+        let mut bytes = good.clone();
+        for _ in 0..1 + random.below(3) {
+            let at = [random.below(224), 1672 + random.below(64)][random.below(2) as usize];
+            bytes[at as usize] = [0, 1, 2, 127, 128, 255, random.below(256)][random.below(7) as usize] as u8;
+        }
+        fs::write(folder.file("damaged.img"), bytes).unwrap();
+        let check = folder.run("check damaged.img").status;
+        taken += i32::from(check == 0);
+        for words in ["show damaged.img", "query damaged.img 0 0 auto", "plot damaged.img 0 1 0", "dump damaged.img"] {
+            let said = folder.run(words);
+            assert_eq!(said.status, check, "{words}: {said:?}");
+            assert!(said.err.lines().count() == check as usize, "{words}: {said:?}");
+        }
+        for words in ["record damaged.img 0 0 20s 1", "consolidate damaged.img"] {
+            let said = folder.run(words);
+            assert!([0, 1].contains(&said.status) && said.err.lines().count() <= 1, "{words}: {said:?}");
+        }
+    }
+    println!("of 150 images {taken} are good ones");
 }

@@ -284,3 +284,43 @@ fn a_full_disk() {
     let _ = Command::new("umount").arg(folder.file("disk")).status();
     tried.unwrap();
 }
+
+#[test]
+fn of_eight_creations_one_is_done() {
+    let folder = Folder::new();
+    for round in 0..10 {
+        let words = format!("create new{round}.img {PLAN}");
+        let made: Vec<Said> = thread::scope(|scope| {
+            let running: Vec<_> = (0..8).map(|_| scope.spawn(|| folder.run(&words))).collect();
+            running.into_iter().map(|r| r.join().unwrap()).collect()
+        });
+        assert_eq!(made.iter().filter(|said| said.status == 0).count(), 1, "{made:?}");
+        assert!(
+            made.iter().all(|said| said.status == 0 || said.status == 3 && said.err.contains("exists already")),
+            "{made:?}"
+        );
+        assert_eq!(folder.good(&format!("check new{round}.img")), "good\n");
+    }
+    assert!(leftovers(&folder.path).is_empty());
+}
+
+#[test]
+fn readers_beside_a_writer_see_whole_images() {
+    let folder = image();
+    let lines: String = (3600..5400).flat_map(|t| (0..8).map(move |c| format!("0 {c} {t}s 0\n"))).collect();
+    folder.good_with("record a.img", &lines);
+    thread::scope(|scope| {
+        let writer = scope.spawn(|| (0..40).for_each(|i| drop(folder.good(&format!("record a.img 0 0 3600s {i}")))));
+        while !writer.is_finished() {
+            assert_eq!(folder.points("a.img 0 7 0").len(), 1800);
+        }
+    });
+}
+
+#[test]
+fn images_larger_than_four_mebibytes() {
+    let folder = Folder::new();
+    assert!(folder.good("create large.img series 3 tier 1s 20d").starts_with("created, bytes: 55296172\n"));
+    folder.good("record large.img 0 2 20d 7");
+    assert_eq!(folder.points("large.img 0 2 0"), [(20 * 86_400_000_000_000, 7.0)]);
+}

@@ -152,5 +152,19 @@ fn a_bad_dump_is_refused_by_its_line() {
     bad("line 3: a tier's words", &dump.replace("none", "some"));
     bad("refusal 10, CorruptedSlab: slab of row 0, field cursor", &dump.replace("0ns 10\n", "0ns 60\n"));
     bad("refusal 4, InvalidTierConfig", &dump.replace("tier 1000000000ns", "tier 0ns"));
-    bad("line 5: OFFSET", &dump.replace("end", "byte x 1\nend").replace("tier 10000000000ns 600000000000ns average 0ns 0\n", ""));
+    bad(
+        "line 5: OFFSET",
+        &dump.replace("end", "byte x 1\nend").replace("tier 10000000000ns 600000000000ns average 0ns 0\n", ""),
+    );
+}
+
+#[test]
+fn import_says_where_runs_were_missed_before() {
+    let folder = Folder::new();
+    folder.good("create a.img series 1 tier 1s 10min tier 10s 1h average");
+    let lines: String = (10..50).map(|t| format!("0 0 {t}s 1\n")).collect();
+    folder.good_with("record a.img", &lines);
+    let said = folder.good_with("import a.img", "0 0 50s 1\n");
+    assert!(said.contains("had no run (last run: none)"), "{said}");
+    assert_eq!(folder.good_with("import a.img", "0 0 51s 1\n").lines().count(), 1);
 }

@@ -1,0 +1,91 @@
+//! import: samples in time order, with a run after each coarsest interval and at the end.
+
+use std::fmt::Write;
+use std::io::{self, IsTerminal};
+use std::path::Path;
+
+use rondo::{SeriesHandle, Store};
+
+use crate::failure::Done;
+use crate::input::{self, Sample};
+use crate::writing::{add_notes, open, run, store_sample};
+use crate::{file, supposition, table, time};
+
+pub fn import(name: &Path, wait: u64) -> Done<String> {
+    file::regular(name)?;
+    let mut samples = input::standard(time::now())?;
+    samples.sort_by_key(|sample| sample.stamp);
+    let mut locked = file::lock(name, wait)?;
+    let mut bytes = locked.read()?;
+    let mut store = open(name, &mut bytes)?;
+    let newest = newest(&store);
+    let mut notes = supposition::of_plan(store.image());
+    notes.extend(supposition::of_runs(store.image(), &newest));
+    notes.extend(supposition::of_samples(store.image(), &newest, &samples));
+    let runs = in_order(name, &mut store, &samples, newest)?;
+    locked.replace(&bytes)?;
+    let mut report = String::new();
+    let _ = writeln!(report, "imported, samples: {}, runs: {runs}", samples.len());
+    add_notes(&mut report, &notes);
+    Ok(report)
+}
+
+/// The newest stamp of each schema's finest tier.
+fn newest(store: &Store) -> Vec<Option<u64>> {
+    let schemas = 0..table::schemas(store.image());
+    schemas.map(|s| store.query(SeriesHandle::new(s, 0), 0, 0, u64::MAX).ok().and_then(|a| a.newest())).collect()
+}
+
+/// Records the samples, and makes a run before each that begins a coarsest interval and at the end. Answers how many runs.
+fn in_order(name: &Path, store: &mut Store, samples: &[Sample], mut newest: Vec<Option<u64>>) -> Done<u64> {
+    let rows = table::rows(store.image());
+    let coarsest: Vec<u64> =
+        (0..newest.len()).map(|s| table::tiers(&rows, s as u32).last().map_or(1, |t| t.interval)).collect();
+    let mut runs = 0;
+    let mut progress = Progress::new(samples.len());
+    for sample in samples {
+        let schema = sample.schema as usize;
+        if let (Some(Some(last)), Some(interval)) = (newest.get(schema), coarsest.get(schema))
+            && last / interval != sample.stamp / interval
+        {
+            run(name, store)?;
+            runs += 1;
+        }
+        store_sample(name, store, sample)?;
+        newest[schema] = Some(sample.stamp);
+        progress.step();
+    }
+    if !samples.is_empty() {
+        run(name, store)?;
+        runs += 1;
+    }
+    Ok(runs)
+}
+
+/// How far an import is, on a terminal.
+struct Progress {
+    shown: bool,
+    all: usize,
+    done: usize,
+}
+
+impl Progress {
+    fn new(all: usize) -> Self {
+        Progress { shown: io::stderr().is_terminal() && all > 10_000, all, done: 0 }
+    }
+
+    fn step(&mut self) {
+        self.done += 1;
+        if self.shown && self.done.is_multiple_of(self.all / 100 + 1) {
+            eprint!("\rimporting: {} %", self.done * 100 / self.all);
+        }
+    }
+}
+
+impl Drop for Progress {
+    fn drop(&mut self) {
+        if self.shown {
+            eprint!("\r\x1b[K");
+        }
+    }
+}
