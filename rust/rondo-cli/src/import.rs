@@ -43,17 +43,21 @@ fn in_order(name: &Path, store: &mut Store, samples: &[Sample], mut newest: Vec<
         (0..newest.len()).map(|s| table::tiers(&rows, s as u32).last().map_or(1, |t| t.interval)).collect();
     let mut runs = 0;
     let mut progress = Progress::new(samples.len());
-    for sample in samples {
-        let schema = sample.schema as usize;
-        if let (Some(Some(last)), Some(interval)) = (newest.get(schema), coarsest.get(schema))
-            && last / interval != sample.stamp / interval
-        {
+    for tick in samples.chunk_by(|a, b| a.stamp == b.stamp) {
+        let begins = |sample: &Sample| {
+            let schema = sample.schema as usize;
+            let last = newest.get(schema).copied().flatten();
+            last.is_some_and(|last| last / coarsest[schema] != sample.stamp / coarsest[schema])
+        };
+        if tick.iter().any(begins) {
             run(name, store)?;
             runs += 1;
         }
-        store_sample(name, store, sample)?;
-        newest[schema] = Some(sample.stamp);
-        progress.step();
+        for sample in tick {
+            store_sample(name, store, sample)?;
+            newest[sample.schema as usize] = Some(sample.stamp);
+            progress.step();
+        }
     }
     if !samples.is_empty() {
         run(name, store)?;

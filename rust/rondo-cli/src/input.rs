@@ -18,11 +18,20 @@ pub struct Sample {
 /// The samples of standard input, all of them, or the first line that is bad.
 pub fn standard(now: u64) -> Done<Vec<Sample>> {
     let text = text()?;
+    let text = text.trim_start_matches('\u{feff}');
     let first = text.lines().map(str::trim).find(|l| !l.is_empty() && !l.starts_with('#'));
     match first {
-        Some(line) if line.contains(',') => csv_samples(&text, now),
-        _ => plain_samples(&text, now),
+        Some(line) if is_csv(line) => csv_samples(text, now),
+        _ => plain_samples(text, now),
     }
+}
+
+/// Whether a line has fields between commas, and not four words with a comma in the last, as in 1,5.
+fn is_csv(line: &str) -> bool {
+    let words: Vec<&str> = line.split_whitespace().collect();
+    let (last, others) = words.split_last().unwrap_or((&"", &[]));
+    let plain = words.len() == 4 && last.contains(',') && !others.iter().any(|word| word.contains(','));
+    line.contains(',') && !plain
 }
 
 /// Standard input as text.
@@ -105,7 +114,9 @@ fn csv_samples(text: &str, now: u64) -> Done<Vec<Sample>> {
         }
         let record = csv_record(text).map_err(|why| bad(line, &why))?;
         match &fields {
-            None if record.iter().any(|f| f == "value") => fields = Some(named(&record).map_err(|why| bad(line, &why))?),
+            None if record.iter().any(|f| f.eq_ignore_ascii_case("value")) => {
+                fields = Some(named(&record).map_err(|why| bad(line, &why))?)
+            }
             _ => {
                 let usual = Fields { schema: Some(0), column: Some(1), stamp: 2, value: 3, bare_ns: false };
                 let fields = fields.get_or_insert(usual);
@@ -127,7 +138,7 @@ fn csv_record(text: &str) -> Result<csv::StringRecord, String> {
 
 /// The fields by a line of names: schema, column, stamp or time or stamp_ns, value.
 fn named(record: &csv::StringRecord) -> Result<Fields, String> {
-    let find = |name: &str| record.iter().position(|field| field == name);
+    let find = |name: &str| record.iter().position(|field| field.eq_ignore_ascii_case(name));
     let exact = find("stamp_ns");
     let stamp = exact.or(find("stamp")).or(find("time")).ok_or("no field is named stamp, stamp_ns or time")?;
     let value = find("value").ok_or("no field is named value")?;

@@ -120,6 +120,9 @@ fn csv_in() {
     folder.good(&format!("create b.img {PLAN}"));
     assert_eq!(folder.good_with("record b.img", &printed), "recorded, samples: 2\n");
     assert_eq!(folder.points("b.img 0 0 0"), folder.points("a.img 0 1 0"));
+    folder.good_with("record a.img", "\u{feff}Column,Time,Value\r\n1,12s,4\r\n");
+    assert_eq!(folder.points("a.img 0 1 0 12s 13s"), [(12_000_000_000, 4.0)]);
+    folder.bad_with(1, "line 1: VALUE cannot be read from '1,5'", "record a.img", "0 0 20s 1,5\n");
     folder.bad_with(1, "line 4: VALUE cannot be read from 'x'", "record a.img", "0,0,20s,1\n#\n\n0,0,21s,x\n");
     folder.bad_with(1, "line 2: VALUE is missing", "record a.img", "0,0,20s,1\n0,0,21s\n");
     folder.bad_with(1, "line 2: one field too many", "record a.img", "0,0,20s,1\n0,0,21s,1,1\n");

@@ -168,3 +168,43 @@ fn import_says_where_runs_were_missed_before() {
     assert!(said.contains("had no run (last run: none)"), "{said}");
     assert_eq!(folder.good_with("import a.img", "0 0 51s 1\n").lines().count(), 1);
 }
+
+/// The clock offset at a second as the tour of `history` has it.
+fn offset_at(t: u64) -> u64 {
+    let phase = t % 1800;
+    if phase < 900 { phase + t / 8 } else { 1800 - phase + t / 8 }
+}
+
+#[test]
+fn the_tour_of_history() {
+    let folder = Folder::new();
+    assert_eq!(folder.good(&format!("create clock.img {DAYS}")), "created, bytes: 225080\n");
+    for (from, count) in [(3600, 61), (7200, 63)] {
+        let lines: String = (from..from + 3600).map(|t| format!("0 0 {t}s {}\n", offset_at(t))).collect();
+        assert_eq!(folder.good_with("record clock.img", &lines), "recorded, samples: 3600\n");
+        assert_eq!(folder.good("consolidate clock.img"), format!("consolidated, values written: {count}\n"));
+    }
+    assert_eq!(folder.points("clock.img 0 0 2"), [(3_600_000_000_000, 1124.5), (7_200_000_000_000, 1574.5)]);
+    let seconds = folder.points("clock.img 0 0 auto 10700s 10705s");
+    assert_eq!(seconds.iter().map(|p| p.1).collect::<Vec<_>>(), [1437.0, 1436.0, 1435.0, 1434.0, 1434.0]);
+    assert!(folder.good("plot clock.img 0 0 1").contains("120 points"));
+    let shown = folder.good("show clock.img");
+    let used: Vec<&str> = shown.lines().skip(2).map(|line| line.split_whitespace().nth(7).unwrap()).collect();
+    assert_eq!(used, ["7200", "120", "2"]);
+    assert_eq!(folder.good("check clock.img"), "good\n");
+}
+
+#[test]
+fn two_schemas_are_imported_by_ticks() {
+    let folder = Folder::new();
+    let plan = "series 1 tier 1s 1min tier 10s 10min average schema series 2 tier 1s 2min tier 20s 10min average";
+    folder.good(&format!("create a.img {plan}"));
+    let lines: String = (20..80).map(|t| format!("1 0 {t}s 1\n0 0 {t}s {t}\n1 1 {t}s {t}\n")).collect();
+    let said = folder.good_with("import a.img", &lines);
+    assert!(said.starts_with("imported, samples: 180, runs: 6\n") && said.contains("one schema, and there are 2"), "{said}");
+    let means = |first: u64, length: u64| {
+        (first..80).step_by(length as usize).map(move |t| (t * 1_000_000_000, (2 * t + length - 1) as f64 / 2.0))
+    };
+    assert_eq!(folder.points("a.img 0 0 1"), means(20, 10).collect::<Vec<_>>());
+    assert_eq!(folder.points("a.img 1 1 1"), means(20, 20).collect::<Vec<_>>());
+}
