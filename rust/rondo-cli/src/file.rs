@@ -117,7 +117,7 @@ impl Locked {
         remove_leftovers(folder, &self.real);
         let old = self.file.metadata().map_err(fail)?;
         let fresh = Temporary::new(folder, &self.real, 0o600).map_err(fail)?;
-        fresh.keep_owner(&old).map_err(fail)?;
+        fresh.keep_owner(&old).map_err(|e| fail(e).and("its owner, group or mode could not be kept"))?;
         fresh.fill(bytes).map_err(fail)?;
         fs::rename(&fresh.path, &self.real).map_err(fail)?;
         fresh.done();
@@ -200,7 +200,8 @@ fn remove_leftovers(folder: &Path, real: &Path) {
     let prefix = prefix(real);
     let Ok(files) = fs::read_dir(folder) else { return };
     for entry in files.flatten() {
-        if !entry.file_name().as_bytes().starts_with(prefix.as_bytes()) {
+        let plain = entry.file_type().is_ok_and(|kind| kind.is_file());
+        if !plain || !entry.file_name().as_bytes().starts_with(prefix.as_bytes()) {
             continue;
         }
         let path = entry.path();

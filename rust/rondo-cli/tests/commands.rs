@@ -188,6 +188,10 @@ fn man_page_and_completions() {
         }
     }
     folder.bad(2, "'sh' isn't a valid value", "completions sh");
+    std::fs::write(folder.file("bash"), folder.good("completions bash")).unwrap();
+    if let Ok(read) = std::process::Command::new("bash").arg("-n").arg(folder.file("bash")).status() {
+        assert!(read.success());
+    }
 }
 
 #[test]

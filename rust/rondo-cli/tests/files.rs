@@ -237,7 +237,7 @@ fn rights_of_another_user() {
     // its folder too, but its owner could not be kept
     fs::set_permissions(&folder.path, fs::Permissions::from_mode(0o777)).unwrap();
     let words = ["record", "a.img", "0", "0", "10s", "1"];
-    check_bad(&as_other(&words), 3, "not permitted", &words);
+    check_bad(&as_other(&words), 3, "its owner, group or mode could not be kept", &words);
     assert!(leftovers(&folder.path).is_empty());
 }
 
@@ -323,4 +323,60 @@ fn images_larger_than_four_mebibytes() {
     assert!(folder.good("create large.img series 3 tier 1s 20d").starts_with("created, bytes: 55296172\n"));
     folder.good("record large.img 0 2 20d 7");
     assert_eq!(folder.points("large.img 0 2 0"), [(20 * 86_400_000_000_000, 7.0)]);
+}
+
+#[test]
+fn creations_killed_at_50_random_moments() {
+    let folder = Folder::new();
+    let create = |name: &str| {
+        let mut command = folder.command();
+        command.args(["create", name]).args(PLAN.split(' ')).stdin(Stdio::null());
+        command.stdout(Stdio::null()).stderr(Stdio::null()).spawn().unwrap()
+    };
+    let began = Instant::now();
+    assert!(create("first.img").wait().unwrap().success());
+    let span = began.elapsed().as_micros() as u64 * 5 / 4 + 1;
+    let mut random = Random(3);
+    let mut there = 0;
+    for round in 0..50 {
+        let name = format!("k{round}.img");
+        let mut child = create(&name);
+        thread::sleep(Duration::from_micros(random.below(span)));
+        let _ = child.kill();
+        child.wait().unwrap();
+        if folder.file(&name).exists() {
+            there += 1;
+        } else {
+            folder.good(&format!("create {name} {PLAN}"));
+        }
+        assert!(folder.bytes(&name) == folder.bytes("first.img"));
+        // the second write finds no name of the first image left
+        folder.good(&format!("record {name} 0 0 60s 1"));
+        folder.good(&format!("record {name} 0 0 61s 1"));
+    }
+    println!("of 50 killed creations {there} had made the file");
+    assert!(leftovers(&folder.path).is_empty(), "{:?}", leftovers(&folder.path));
+}
+
+#[test]
+fn an_import_killed_leaves_the_image_as_it_was_or_done() {
+    let folder = image();
+    let lines: String = (3600..9000).map(|t| format!("0 0 {t}s 1\n")).collect();
+    let before = folder.bytes("a.img");
+    fs::copy(folder.file("a.img"), folder.file("whole.img")).unwrap();
+    let began = Instant::now();
+    folder.good_with("import whole.img", &lines);
+    let span = began.elapsed().as_micros() as u64 * 5 / 4 + 1;
+    fs::write(folder.file("lines"), &lines).unwrap();
+    let mut random = Random(5);
+    for _ in 0..30 {
+        fs::write(folder.file("a.img"), &before).unwrap();
+        let input = File::open(folder.file("lines")).unwrap();
+        let mut child = folder.command().args(["import", "a.img"]).stdin(input).stdout(Stdio::null()).spawn().unwrap();
+        thread::sleep(Duration::from_micros(random.below(span)));
+        let _ = child.kill();
+        child.wait().unwrap();
+        let after = folder.bytes("a.img");
+        assert!(after == before || after == folder.bytes("whole.img"));
+    }
 }
