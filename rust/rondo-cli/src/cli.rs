@@ -28,6 +28,7 @@ pub struct Cli {
 pub enum Command {
     /// Makes a new image from a plan, and says where the plan does not meet what the third demand supposes
     Create {
+        /// The image file
         #[arg(value_name = "FILE")]
         file: PathBuf,
         /// series M tier INTERVAL RETENTION [FUNCTION] tier .. [schema series M tier ..], the finest tier first;
@@ -37,6 +38,7 @@ pub enum Command {
     },
     /// Records one sample, or those of standard input: all of them or none
     Record {
+        /// The image file
         #[arg(value_name = "FILE")]
         file: PathBuf,
         #[command(flatten)]
@@ -44,11 +46,13 @@ pub enum Command {
     },
     /// Records the samples of standard input in time order, with a run after each coarsest interval and at the end
     Import {
+        /// The image file
         #[arg(value_name = "FILE")]
         file: PathBuf,
     },
     /// Brings the coarser tiers up to date
     Consolidate {
+        /// The image file
         #[arg(value_name = "FILE")]
         file: PathBuf,
     },
@@ -73,21 +77,25 @@ pub enum Command {
     },
     /// Prints rows, slots used, ends and marks
     Show {
+        /// The image file
         #[arg(value_name = "FILE")]
         file: PathBuf,
     },
     /// Prints good, or says what the image is refused by, and where
     Check {
+        /// The image file
         #[arg(value_name = "FILE")]
         file: PathBuf,
     },
     /// Prints the whole image as text, for restore
     Dump {
+        /// The image file
         #[arg(value_name = "FILE")]
         file: PathBuf,
     },
     /// Makes a new image from a dump on standard input, the same to the byte
     Restore {
+        /// The image file
         #[arg(value_name = "FILE")]
         file: PathBuf,
     },
@@ -127,10 +135,13 @@ impl Sample {
 /// A series, a tier and a range of time.
 #[derive(Args)]
 pub struct Asked {
+    /// The image file
     #[arg(value_name = "FILE")]
     pub file: PathBuf,
+    /// The schema's number
     #[arg(value_name = "SCHEMA", value_parser = input::number)]
     pub schema: u32,
+    /// The column's number
     #[arg(value_name = "COLUMN", value_parser = input::number)]
     pub column: u32,
     /// A tier's number, 0 the finest, or auto: the first that covers the range

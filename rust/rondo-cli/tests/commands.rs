@@ -188,6 +188,11 @@ fn man_page_and_completions() {
         }
     }
     folder.bad(2, "'sh' isn't a valid value", "completions sh");
+    std::fs::write(folder.file("page"), &page).unwrap();
+    let groff = std::process::Command::new("groff").args(["-man", "-ww", "-Tascii"]).arg(folder.file("page")).output();
+    if let Ok(read) = groff {
+        assert!(read.status.success() && read.stderr.is_empty(), "{}", String::from_utf8_lossy(&read.stderr));
+    }
     std::fs::write(folder.file("bash"), folder.good("completions bash")).unwrap();
     if let Ok(read) = std::process::Command::new("bash").arg("-n").arg(folder.file("bash")).status() {
         assert!(read.success());
