@@ -80,6 +80,12 @@ pub enum Command {
         /// The image file
         #[arg(value_name = "FILE")]
         file: PathBuf,
+        /// As CSV, times in ns
+        #[arg(long, conflicts_with = "json")]
+        csv: bool,
+        /// As JSON, times in ns
+        #[arg(long)]
+        json: bool,
     },
     /// Prints good, or says what the image is refused by, and where
     Check {

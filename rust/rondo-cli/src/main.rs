@@ -16,6 +16,7 @@ mod planning;
 mod plot;
 mod png;
 mod reading;
+mod show;
 mod supposition;
 mod svg;
 mod table;
@@ -79,18 +80,9 @@ fn carry_out(cli: &Cli) -> Done<String> {
         Command::Record { file, sample } => writing::record(file, &sample.words(), cli.wait),
         Command::Import { file } => import::import(file, cli.wait),
         Command::Consolidate { file } => writing::consolidate(file, cli.wait),
-        Command::Query { asked, csv, json } => {
-            let form = if *csv {
-                Form::Csv
-            } else if *json {
-                Form::Json
-            } else {
-                Form::Table
-            };
-            reading::query(asked, form)
-        }
+        Command::Query { asked, csv, json } => reading::query(asked, Form::of(*csv, *json)),
         Command::Plot { asked, out } => plot::plot(asked, out.as_deref(), cli.wait),
-        Command::Show { file } => reading::show(file),
+        Command::Show { file, csv, json } => show::show(file, Form::of(*csv, *json)),
         Command::Check { file } => reading::check(file),
         Command::Dump { file } => dump::dump(file),
         Command::Restore { file } => dump::restore(file),

@@ -1,4 +1,4 @@
-//! The commands that read an image: query, show, check.
+//! The commands that read an image: query and check.
 
 use std::fmt::Write;
 use std::io::{self, IsTerminal};
@@ -10,16 +10,26 @@ use serde_json::{Value, json};
 use crate::cli::{Asked, Tier};
 use crate::failure::{Done, Failure, refusal};
 use crate::table;
-use crate::time::{self, date, spoken};
+use crate::time::{self, date};
 use crate::writing::{no_series, open};
 use crate::{file, value};
 
-/// The form of a query's output.
+/// The form of the output.
 #[derive(Clone, Copy, PartialEq)]
 pub enum Form {
     Table,
     Csv,
     Json,
+}
+
+impl Form {
+    pub fn of(csv: bool, json: bool) -> Form {
+        match (csv, json) {
+            (true, _) => Form::Csv,
+            (_, true) => Form::Json,
+            _ => Form::Table,
+        }
+    }
 }
 
 /// A query's answer and its points.
@@ -138,50 +148,4 @@ pub fn check(name: &Path) -> Done<String> {
     let mut bytes = file::read(name)?;
     open(name, &mut bytes)?;
     Ok("good\n".to_string())
-}
-
-pub fn show(name: &Path) -> Done<String> {
-    let mut bytes = file::read(name)?;
-    let store = open(name, &mut bytes)?;
-    let image = store.image();
-    let rows = table::rows(image);
-    let mut out = bold(&format!("# schemas {}, rows {}, bytes {}\n", table::schemas(image), rows.len(), image.len()));
-    let names = ["schema", "tier", "series", "interval", "retention", "function", "slots", "used", "full ring"];
-    out.push_str(&bold(&format!(
-        "#{:>6} {:>4} {:>6} {:>9} {:>9} {:>8} {:>10} {:>10} {:>9}  {:30} {:30} {}\n",
-        names[0],
-        names[1],
-        names[2],
-        names[3],
-        names[4],
-        names[5],
-        names[6],
-        names[7],
-        names[8],
-        "oldest",
-        "newest",
-        "consolidated to",
-    )));
-    let end = |stamp: Option<u64>| stamp.map_or("-".to_string(), date);
-    for (i, row) in rows.iter().enumerate() {
-        let found = store.query(SeriesHandle::new(row.schema, 0), row.tier, 0, u64::MAX);
-        let (oldest, newest) = found.map_or((None, None), |answer| answer.available_range());
-        let wrapped = if store.flags() >> i & 1 == 1 { "yes" } else { "no" };
-        let _ = writeln!(
-            out,
-            "{:>7} {:>4} {:>6} {:>9} {:>9} {:>8} {:>10} {:>10} {wrapped:>9}  {:30} {:30} {}",
-            row.schema,
-            row.tier,
-            row.series,
-            spoken(row.interval),
-            spoken(row.retention),
-            row.function_name(),
-            row.slots(),
-            row.used(image),
-            end(oldest),
-            end(newest),
-            end(Some(row.mark).filter(|mark| *mark != 0)),
-        );
-    }
-    Ok(out)
 }

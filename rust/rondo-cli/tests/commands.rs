@@ -137,6 +137,13 @@ fn show_and_version() {
     assert_eq!((shown.lines().count(), shown.matches('#').count()), (4, 2));
     let row: Vec<&str> = shown.lines().nth(3).unwrap().split_whitespace().collect();
     assert_eq!(row[..9], ["0", "1", "2", "10s", "10min", "average", "60", "1", "no"]);
+    let csv = folder.good("show a.img --csv");
+    assert_eq!(csv.lines().nth(2), Some("0,1,2,10000000000,600000000000,average,60,1,false,10000000000,10000000000,"));
+    let json: serde_json::Value = serde_json::from_str(&folder.good("show a.img --json")).unwrap();
+    assert_eq!(
+        (&json[0]["used"], &json[0]["mark_ns"], &json[1]["mark_ns"]),
+        (&4.into(), &19_000_000_000u64.into(), &().into())
+    );
     assert!(folder.good("version").starts_with("rondo "));
     assert!(folder.good("--version").starts_with("rondo "));
     assert!(folder.good("help").contains("Exit status"));
