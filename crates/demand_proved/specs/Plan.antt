@@ -9,7 +9,7 @@ use mathlib.Core.Bool.{Bool, true, false}
 use mathlib.Core.List.{List, []}
 use lib.Dec.{eqb}
 use Rattle.model.specs.declared.Row.{Row}
-use Rattle.model.specs.Image.{schemas, rowCount, rowAt, rowsFrom, rows, rowSlots, keepRow, tiersOf, schemaCheck, layoutCheck}
+use Rattle.model.specs.Image.{tierCheck, schemas, rowCount, rowAt, rowsFrom, rows, rowSlots, keepRow, tiersOf, schemaCheck, layoutCheck}
 use Rattle.model.specs.Lent.{Lent, firstRow}
 use Rattle.image_theory.specs.Checks.{Shape, schema-at, schema-parts, layout-parts, tiers-ok}
 use Rattle.image_theory.specs.Tiers.{schema-le, TierRow, tier-row, some-tier, series-one}
@@ -29,7 +29,7 @@ unfoldable pub per : List ℕ → ℕ → ℕ
 per p k = coarsestOf p / rowAt p k .interval
 
 -- rows that all average have no finest tier among them, which has no function: a schema's tiers would be refused
-all-average : (k : ℕ) (s : List ℕ) (i n : ℕ) → ((j : ℕ) → i ≤ j → j < i + n → rowAt s j .function ≡ 1) → schemaCheck (tiersOf k (rowsFrom s i n)) ≡ 0 → ⊥
+all-average : (k : ℕ) (s : List ℕ) (i n : ℕ) → ((j : ℕ) → i ≤ j → j < i + n → rowAt s j .function ≡ 1) → schemaCheck tierCheck (tiersOf k (rowsFrom s i n)) ≡ 0 → ⊥
 unfolding tiersOf rowsFrom keepRow
 all-average k s i zero av h = unfold schemaCheck in (omega arith)
 all-average k s i (suc n) av h = go (eqb (rowAt s i .schema) k) h (all-average k s (suc i) n (λ j x y. av j (omega arith) (omega arith)))
@@ -37,7 +37,7 @@ all-average k s i (suc n) av h = go (eqb (rowAt s i .schema) k) h (all-average k
     rest : List Row
     rest = tiersOf k (rowsFrom s (suc i) n)
 
-    go : (b : Bool) → schemaCheck (keepRow b (rowAt s i) rest) ≡ 0 → (schemaCheck rest ≡ 0 → ⊥) → ⊥
+    go : (b : Bool) → schemaCheck tierCheck (keepRow b (rowAt s i) rest) ≡ 0 → (schemaCheck tierCheck rest ≡ 0 → ⊥) → ⊥
     go true c later = omega (arith, av i (omega arith) (omega arith), schema-parts (rowAt s i) rest c .3)
     go false c later = later c
 
@@ -45,7 +45,7 @@ module _ {p buf : List ℕ} (ok : Planned p buf) where
   shape-is : Shape p
   shape-is = plan-parts p buf (ok .accepted) .0 .shape-is
 
-  layout-is : layoutCheck p ≡ 0
+  layout-is : layoutCheck tierCheck p ≡ 0
   layout-is = plan-parts p buf (ok .accepted) .0 .layout-is
 
   -- schema 0 has a tier, so the first row is one of it
@@ -61,7 +61,7 @@ module _ {p buf : List ℕ} (ok : Planned p buf) where
       omega (arith, z, finest-row .schema-is)
 
   -- a second schema's tiers are among the other rows
-  other-rows : (n : ℕ) → schemaCheck (tiersOf 1 (rowsFrom p 0 (suc n))) ≡ 0 → schemaCheck (tiersOf 1 (rowsFrom p 1 n)) ≡ 0
+  other-rows : (n : ℕ) → schemaCheck tierCheck (tiersOf 1 (rowsFrom p 0 (suc n))) ≡ 0 → schemaCheck tierCheck (tiersOf 1 (rowsFrom p 1 n)) ≡ 0
   unfolding tiersOf rowsFrom keepRow
   other-rows n c = rw first-schema at c
 
@@ -79,7 +79,7 @@ module _ {p buf : List ℕ} (ok : Planned p buf) where
           let c = schema-at (rows p) 0 (schemas p) (layout-parts p layout-is .0) 1 (omega arith) (omega arith) in
           let n = rowCount p - 1 in
           let e : rowCount p ≡ suc n = omega (arith, some-rows) in
-          absurd (all-average 1 p 1 n (λ j x y. average j x (omega arith)) (other-rows n (subst (λ (m : ℕ). schemaCheck (tiersOf 1 (rowsFrom p 0 m)) ≡ 0) e c)))
+          absurd (all-average 1 p 1 n (λ j x y. average j x (omega arith)) (other-rows n (subst (λ (m : ℕ). schemaCheck tierCheck (tiersOf 1 (rowsFrom p 0 m)) ≡ 0) e c)))
 
   pub long : (k : ℕ) → k < rowCount p → 0 < rowAt p k .interval
   long k h = tiers-ok p shape-is layout-is k h .long

@@ -12,11 +12,11 @@ use lib.Dec.{lit<}
 use lib.ListN.{length}
 use Rattle.model.specs.declared.Row.{Row}
 use Rattle.model.specs.Layout.{directory, stampsBehind, columnBehind, columnAt, slabLength}
-use Rattle.model.specs.Image.{schemas, rowCount, totalLength, rowPlace, rowAt, rowsFrom, rows, rowSlots, rowLength, shape, blank, slabsEnd, imageLength, layoutCheck, planCheck, createCheck, slabOf, sound, placedRow}
+use Rattle.model.specs.Image.{tierCheck, schemas, rowCount, totalLength, rowPlace, rowAt, rowsFrom, rows, rowSlots, rowLength, shape, blank, slabsEnd, imageLength, layoutCheck, planCheck, createCheck, slabOf, sound, placedRow}
 use Rattle.laws.specs.Tests.{le-is, and-left, and-right}
 use Rattle.laws.specs.Checks.{each-zero, unless-zero}
 use Rattle.image_theory.specs.Rows.{slabsEnd-suc}
-use Rattle.image_theory.specs.Checks.{Shape, shape-parts, tier-low, TierOk, tiers-ok, layout-parts, Alike, Like, slabsEnd-like, imageLength-like, layout-like, shape-like, sound-of}
+use Rattle.image_theory.specs.Checks.{Shape, shape-parts, tier-low, TierOk, tiers-ok, layout-parts, plan-opens, Alike, Like, slabsEnd-like, imageLength-like, layout-like, shape-like, sound-of}
 use Rattle.image_theory.specs.Good.{slabStart, start-suc, head-inside, start-high, Good}
 use Rattle.fresh_theory.specs.FreshSlab.{suits-fresh}
 use Rattle.fresh_theory.specs.ReadBack.{cutRow, made, freshOf, low-back, total-back, zero-back, count-back, schemas-back, row-at-back, slab-at-back, length-back}
@@ -26,7 +26,7 @@ use Rattle.fresh_theory.specs.ReadBack.{cutRow, made, freshOf, low-back,
 pub record Plan (p : List ℕ) : Type 0 where
   pub shape-is : Shape p
   pub blank-is : blank p ≡ true
-  pub layout-is : layoutCheck p ≡ 0
+  pub layout-is : layoutCheck tierCheck p ≡ 0
 
 pub plan-parts : (p buf : List ℕ) → createCheck p buf ≡ 0 → Plan p × (imageLength p ≤ length buf)
 unfolding createCheck planCheck
@@ -37,7 +37,7 @@ plan-parts p buf h =
       record {
         shape-is = shape-parts p (and-left (shape p) (blank p) d);
         blank-is = and-right (shape p) (blank p) d;
-        layout-is = c 1;
+        layout-is = plan-opens p (c 1);
       },
       le-is (imageLength p) (length buf) (unless-zero _ (z 1)),
     )

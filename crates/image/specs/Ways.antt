@@ -8,7 +8,7 @@ use lib.Dec.{eqb, leb}
 use borrow.Author.Tests.{le-leb, lt-leb, leb-true}
 use Rattle.model.specs.declared.Row.{Row}
 use Rattle.model.specs.Bytes.{get}
-use Rattle.model.specs.Image.{first, unless, shape, blank, schemas, rowCount, rowPlace, totalLength, imageLength, slabsEnd, placed, soundAll, schemaChecks, layoutCheck, planCheck, openCheck}
+use Rattle.model.specs.Image.{tierCheck, newTierCheck, first, unless, shape, blank, schemas, rowCount, rowPlace, totalLength, imageLength, slabsEnd, placed, soundAll, schemaChecks, layoutCheck, planCheck, openCheck}
 use Rattle.laws.specs.Tests.{and-left}
 use Rattle.laws.specs.Checks.{each-zero, unless-zero}
 use Rattle.rows.specs.First.{first-stop, first-on, first-one, unless-on, unless-stop}
@@ -19,29 +19,29 @@ module _ (s : List ℕ) where
   unfolding imageLength rowPlace
   length-is = rw (rows-all s)
 
-  -- ---- 2 to 8
+  -- ---- 2 to 8, by a check f of one tier
 
   abbrev R : List Row
   R = rowsTo s (rowCount s) 0
 
-  pub layout-schemas : {x : ℕ} → x ≡ schemaChecks 0 (schemas s) R → (x ≡ 0 → ⊥) → x ≡ layoutCheck s
+  pub layout-schemas : (f : Row → ℕ) {x : ℕ} → x ≡ schemaChecks f 0 (schemas s) R → (x ≡ 0 → ⊥) → x ≡ layoutCheck f s
   unfolding layoutCheck
-  layout-schemas e f = rw (← rows-all s) (e ∙ sym (first-stop (schemaChecks 0 (schemas s) R) _ (λ z. f (e ∙ z))))
+  layout-schemas f e g = rw (← rows-all s) (e ∙ sym (first-stop (schemaChecks f 0 (schemas s) R) _ (λ z. g (e ∙ z))))
 
-  module _ (e : schemaChecks 0 (schemas s) R ≡ 0) where
-    past-schemas : layoutCheck s ≡ unless (leb (imageLength s) 1099511627776) 8
+  module _ (f : Row → ℕ) (e : schemaChecks f 0 (schemas s) R ≡ 0) where
+    past-schemas : layoutCheck f s ≡ unless (leb (imageLength s) 1099511627776) 8
     unfolding layoutCheck
     past-schemas = rw (← rows-all s) (first-on _ e ∙ first-one _)
 
-    pub layout-8 : 1099511627776 < imageLength s → 8 ≡ layoutCheck s
+    pub layout-8 : 1099511627776 < imageLength s → 8 ≡ layoutCheck f s
     layout-8 h = sym (past-schemas ∙ unless-stop 8 (lt-leb _ _ h))
 
-    pub layout-0 : imageLength s ≤ 1099511627776 → 0 ≡ layoutCheck s
+    pub layout-0 : imageLength s ≤ 1099511627776 → 0 ≡ layoutCheck f s
     layout-0 h = sym (past-schemas ∙ unless-on 8 (le-leb _ _ h))
 
-  pub layout-fits : layoutCheck s ≡ 0 → imageLength s ≤ 1099511627776
+  pub layout-fits : (f : Row → ℕ) → layoutCheck f s ≡ 0 → imageLength s ≤ 1099511627776
   unfolding layoutCheck
-  layout-fits e = leb-true _ _ (unless-zero _ (each-zero _ e 1))
+  layout-fits f e = leb-true _ _ (unless-zero _ (each-zero _ e 1))
 
   -- ---- a plan
 
@@ -53,16 +53,16 @@ module _ (s : List ℕ) where
   unfolding planCheck first unless
   plan-blank e f = rw (e, f)
 
-  pub plan-layout : shape s ≡ true → blank s ≡ true → layoutCheck s ≡ planCheck s
-  unfolding planCheck unless
-  plan-layout e f = rw (e, f) (sym (first-on _ refl ∙ first-one (layoutCheck s)))
+  pub plan-layout : shape s ≡ true → blank s ≡ true → layoutCheck tierCheck s ≡ planCheck s
+  unfolding planCheck unless newTierCheck
+  plan-layout e f = rw (e, f) (sym (first-on _ refl ∙ first-one (layoutCheck tierCheck s)))
 
   -- a plan that passed is in shape, and its image is no longer than 2^40
   pub plan-parts : planCheck s ≡ 0 → (shape s ≡ true) × (imageLength s ≤ 1099511627776)
   unfolding planCheck
   plan-parts e =
       let z = each-zero _ e in
-      (and-left (shape s) (blank s) (unless-zero _ (z 0)), layout-fits (z 1))
+      (and-left (shape s) (blank s) (unless-zero _ (z 0)), layout-fits newTierCheck (z 1))
 
   -- ---- an image
 
@@ -85,11 +85,11 @@ module _ (s : List ℕ) where
   open-shape e = rw e
 
   module _ (e : shape s ≡ true) where
-    pub open-layout : {x : ℕ} → x ≡ layoutCheck s → (x ≡ 0 → ⊥) → x ≡ openCheck s
+    pub open-layout : {x : ℕ} → x ≡ layoutCheck tierCheck s → (x ≡ 0 → ⊥) → x ≡ openCheck s
     unfolding openCheck unless
-    open-layout f g = rw e (f ∙ sym (first-on _ refl ∙ first-stop (layoutCheck s) _ (λ z. g (f ∙ z))))
+    open-layout f g = rw e (f ∙ sym (first-on _ refl ∙ first-stop (layoutCheck tierCheck s) _ (λ z. g (f ∙ z))))
 
-    module _ (f : layoutCheck s ≡ 0) where
+    module _ (f : layoutCheck tierCheck s ≡ 0) where
       past-layout : openCheck s ≡ first (unless right 1 ∷ unless (soundAll s R) 10 ∷ [])
       unfolding openCheck unless rowPlace
       past-layout = rw (e, ← rows-all s) (first-on _ refl ∙ first-on _ f)

@@ -5,7 +5,7 @@ ghost use mathlib.Core.Bool.{true};
 ghost use Prim.Native.Nat.{_+_, _*_, _≤_};
 ghost use lib.ListN.{length};
 ghost use Rattle.model.specs.Words.{outcomeNo};
-ghost use Rattle.model.specs.Image.{shape, layoutCheck, planCheck, imageLength, placed, slabsEnd, soundAll, openCheck};
+ghost use Rattle.model.specs.Image.{tierCheck, shape, layoutCheck, planCheck, imageLength, placed, slabsEnd, soundAll, openCheck};
 ghost use Rattle.rows.specs.Rows.{rowsTo};
 ghost use Rattle.layout.specs.Ends.{capped};
 
@@ -21,7 +21,7 @@ pub fn length_of(s: &[u8]) -> u64
 // What creation and opening share after the shape: 2 to 7 schema by schema, then 8.
 fn check_layout(s: &[u8]) -> model::Outcome
     requires { ⌜ shape (now s) ≡ true ⌝ }
-    ensures { λ r. ⌜ outcomeNo r ≡ layoutCheck (now (s .entry)) ⌝ }
+    ensures { λ r. ⌜ outcomeNo r ≡ layoutCheck tierCheck (now (s .entry)) ⌝ }
 {
     let k = field::get_u32(s, format::HEADER_SCHEMAS);
     let n = field::get_u32(s, format::HEADER_ROWS);

@@ -51,7 +51,7 @@ never-falls s i (suc k) x c h =
 
 record Behind (s : List ℕ) (x i k : ℕ) : Type 0 where
   rises : rising (rowAt s i) (tiersOf x (rowsFrom s (suc i) k)) ≡ true
-  tiers-pass : tierChecks (tiersOf x (rowsFrom s (suc i) k)) ≡ 0
+  tiers-pass : tierChecks tierCheck (tiersOf x (rowsFrom s (suc i) k)) ≡ 0
 
 behind : (s : List ℕ) (x i k : ℕ) → Chain s i (suc i + k) → rowAt s i .schema ≡ x → Behind s x i k
 unfolding tiersOf rowsFrom keepRow rising tierChecks first
@@ -75,11 +75,11 @@ behind s x i (suc k) c h =
         }
     go (inr a) more =
         let n : tiersOf x (rowsFrom s (suc i) (suc k)) ≡ [] = never-falls s (suc i) k x c′ (omega (arith, a .schema-is)) in
-        record { rises = ap (rising (rowAt s i)) n; tiers-pass = ap tierChecks n }
+        record { rises = ap (rising (rowAt s i)) n; tiers-pass = ap (tierChecks tierCheck) n }
 
 -- ---- schema x, from a row of it or of an earlier schema on
 
-first-row-passes : (s : List ℕ) (x i k : ℕ) → Chain s i (i + suc k) → rowAt s i .schema ≡ x → (rowAt s i .function ≡ 0) × (0 < rowAt s i .series) → schemaCheck (tiersOf x (rowsFrom s i (suc k))) ≡ 0
+first-row-passes : (s : List ℕ) (x i k : ℕ) → Chain s i (i + suc k) → rowAt s i .schema ≡ x → (rowAt s i .function ≡ 0) × (0 < rowAt s i .series) → schemaCheck tierCheck (tiersOf x (rowsFrom s i (suc k))) ≡ 0
 unfolding tiersOf rowsFrom keepRow schemaCheck first unless tierChecks
 first-row-passes s x i k c h f =
     let e : i + suc k ≡ suc i + k = omega arith in
@@ -88,7 +88,7 @@ first-row-passes s x i k c h f =
     rw (t, yes-lt 0 (rowAt s i .series) (f .1), c .tier-passes i (omega arith) (omega arith), b .tiers-pass, b .rises, f .0)
 
 passes-from : (s : List ℕ) (x i k : ℕ) → Chain s i (i + suc k) → rowAt s i .schema ≤ x → (rowAt s i .schema ≡ x → (rowAt s i .function ≡ 0) × (0 < rowAt s i .series)) → x ≤ rowAt s (i + k) .schema
-    → schemaCheck (tiersOf x (rowsFrom s i (suc k))) ≡ 0
+    → schemaCheck tierCheck (tiersOf x (rowsFrom s i (suc k))) ≡ 0
 passes-from s x i zero c h f l = let e : i + 0 ≡ i = omega arith in let q : rowAt s i .schema ≡ x = omega (arith, rw e at l) in first-row-passes s x i zero c q (f q)
 passes-from s x i (suc k) c h f l =
     let e : i + suc (suc k) ≡ suc i + suc k = omega arith in
@@ -96,29 +96,29 @@ passes-from s x i (suc k) c h f l =
     go (ℕ-discrete (rowAt s i .schema) x) (λ a b. passes-from s x (suc i) k (rw e at (later c)) a b (rw m at l))
   where
     go : Dec (rowAt s i .schema ≡ x)
-        → (rowAt s (suc i) .schema ≤ x → (rowAt s (suc i) .schema ≡ x → (rowAt s (suc i) .function ≡ 0) × (0 < rowAt s (suc i) .series)) → schemaCheck (tiersOf x (rowsFrom s (suc i) (suc k))) ≡ 0)
-        → schemaCheck (tiersOf x (rowsFrom s i (suc (suc k)))) ≡ 0
+        → (rowAt s (suc i) .schema ≤ x → (rowAt s (suc i) .schema ≡ x → (rowAt s (suc i) .function ≡ 0) × (0 < rowAt s (suc i) .series)) → schemaCheck tierCheck (tiersOf x (rowsFrom s (suc i) (suc k))) ≡ 0)
+        → schemaCheck tierCheck (tiersOf x (rowsFrom s i (suc (suc k)))) ≡ 0
     go (yes q) more = first-row-passes s x i (suc k) c q (f q)
     go (no q) more = skip (next (c .joins i (omega arith) (omega arith)))
       where
-        skip : schemaCheck (tiersOf x (rowsFrom s (suc i) (suc k))) ≡ 0 → schemaCheck (tiersOf x (rowsFrom s i (suc (suc k)))) ≡ 0
+        skip : schemaCheck tierCheck (tiersOf x (rowsFrom s (suc i) (suc k))) ≡ 0 → schemaCheck tierCheck (tiersOf x (rowsFrom s i (suc (suc k)))) ≡ 0
         skip r = skipped ∙ r
           where
-            skipped : schemaCheck (tiersOf x (rowsFrom s i (suc (suc k)))) ≡ schemaCheck (tiersOf x (rowsFrom s (suc i) (suc k)))
-            skipped = ap schemaCheck (unfold tiersOf rowsFrom keepRow in (rw (no-eq (rowAt s i .schema) x q)))
+            skipped : schemaCheck tierCheck (tiersOf x (rowsFrom s i (suc (suc k)))) ≡ schemaCheck tierCheck (tiersOf x (rowsFrom s (suc i) (suc k)))
+            skipped = ap (schemaCheck tierCheck) (unfold tiersOf rowsFrom keepRow in (rw (no-eq (rowAt s i .schema) x q)))
 
-        next : SameSchema (rowAt s i) (rowAt s (suc i)) ⊎ NextSchema (rowAt s i) (rowAt s (suc i)) → schemaCheck (tiersOf x (rowsFrom s (suc i) (suc k))) ≡ 0
+        next : SameSchema (rowAt s i) (rowAt s (suc i)) ⊎ NextSchema (rowAt s i) (rowAt s (suc i)) → schemaCheck tierCheck (tiersOf x (rowsFrom s (suc i) (suc k))) ≡ 0
         next (inl a) = more (omega (arith, a .schema-is)) (λ z. absurd (q (sym (a .schema-is) ∙ z)))
         next (inr a) = more (omega (arith, a .schema-is)) (λ z. (a .no-function, a .some-series))
 
 -- ---- all schemas
 
-all-pass : (rs : List Row) (j k : ℕ) → ((x : ℕ) → j ≤ x → x < j + k → schemaCheck (tiersOf x rs) ≡ 0) → schemaChecks j k rs ≡ 0
+all-pass : (rs : List Row) (j k : ℕ) → ((x : ℕ) → j ≤ x → x < j + k → schemaCheck tierCheck (tiersOf x rs) ≡ 0) → schemaChecks tierCheck j k rs ≡ 0
 unfolding schemaChecks first
 all-pass rs j zero h = refl
 all-pass rs j (suc k) h = rw (h j (omega arith) (omega arith), all-pass rs (suc j) k (λ x a b. h x (omega arith) (omega arith)))
 
 -- rows 0 up to n, the first of schema 0, the last of schema k - 1
-pub chain-passes : (s : List ℕ) (n k : ℕ) → Chain s 0 (suc n) → rowAt s 0 .schema ≡ 0 → (rowAt s 0 .function ≡ 0) × (0 < rowAt s 0 .series) → k ≡ suc (rowAt s n .schema) → schemaChecks 0 k (rowsFrom s 0 (suc n)) ≡ 0
+pub chain-passes : (s : List ℕ) (n k : ℕ) → Chain s 0 (suc n) → rowAt s 0 .schema ≡ 0 → (rowAt s 0 .function ≡ 0) × (0 < rowAt s 0 .series) → k ≡ suc (rowAt s n .schema) → schemaChecks tierCheck 0 k (rowsFrom s 0 (suc n)) ≡ 0
 chain-passes s n k c z f e =
     all-pass (rowsFrom s 0 (suc n)) 0 k (λ x a b. passes-from s x 0 n (rw zero-add c) (omega arith) (λ q. f) (rw zero-add (omega arith)))

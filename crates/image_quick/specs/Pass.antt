@@ -112,7 +112,7 @@ module _ (s : List ℕ) (n : ℕ) (p : Pass s n) where
       go j (inl a) = inl (record { schema-is = a .schema-is; longer = a .longer })
       go j (inr a) = inr (record { schema-is = a .schema-is; no-function = a .no-function; some-series = a .some-series })
 
-  layout : layoutCheck s ≡ 0
+  layout : layoutCheck tierCheck s ≡ 0
   unfolding layoutCheck first unless rows
   layout = rw (p .count-is, chain-passes s n (schemas s) chain (p .starts .schema-is) (p .starts .no-function, p .starts .some-series) (p .ends), yes-le (imageLength s) (2 ^ 40) (p .total-low))
 

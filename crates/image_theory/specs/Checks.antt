@@ -13,10 +13,10 @@ use lib.Dec.{leb, ltb, eqb}
 use Rattle.model.specs.declared.Row.{Row}
 use Rattle.model.specs.Bytes.{get, u32, u64}
 use Rattle.model.specs.Layout.{slotCount}
-use Rattle.model.specs.Image.{first, schemas, rowCount, rowPlace, rowAt, rowsFrom, rows, rowSlots, rowLength, every, header, follows, orderly, rowShape, shape, keepRow, tiersOf, tierCheck, tierChecks, rising, schemaCheck, schemaChecks, slabsEnd, imageLength, layoutCheck, soundFields, sound}
+use Rattle.model.specs.Image.{first, schemas, rowCount, rowPlace, rowAt, rowsFrom, rows, rowSlots, rowLength, every, header, follows, orderly, rowShape, shape, keepRow, tiersOf, tierCheck, newTierCheck, tierChecks, rising, schemaCheck, schemaChecks, slabsEnd, imageLength, layoutCheck, soundFields, sound}
 use Rattle.model.specs.Ring.{slots, series, interval, cursor}
 use Rattle.laws.specs.Tests.{yes-le, yes-lt, yes-eq, le-is, lt-is, eq-is, and-left, and-right, split3}
-use Rattle.laws.specs.Checks.{each-zero, unless-zero}
+use Rattle.laws.specs.Checks.{all-zero, each-zero, unless-zero}
 use Rattle.image_theory.specs.Rows.{every-of, every-at, orderly-of, orderly-at}
 
 split7 : (a b c d e f g : Bool) → a && b && c && d && e && f && g ≡ true
@@ -201,13 +201,13 @@ tier-ok r h =
     slots-pos : 0 < r .interval → r .interval ≤ r .retention → 0 < rowSlots r
     slots-pos l k = unfold rowSlots slotCount in (le-div-iff-mul-le l .1 (omega arith))
 
-kept-row : (b : Bool) (r : Row) (rs : List Row) → tierChecks (keepRow b r rs) ≡ 0 → (b ≡ true → tierCheck r ≡ 0) × (tierChecks rs ≡ 0)
+kept-row : (b : Bool) (r : Row) (rs : List Row) → tierChecks tierCheck (keepRow b r rs) ≡ 0 → (b ≡ true → tierCheck r ≡ 0) × (tierChecks tierCheck rs ≡ 0)
 unfolding tierChecks keepRow
 kept-row true r rs h = let z = each-zero _ h in (λ e. z 0, z 1)
 kept-row false r rs h = (λ e. absurd (false≢true e), h)
 
 -- a row of schema n is among the tiers of schema n
-tier-at : (n : ℕ) (s : List ℕ) (i k : ℕ) → tierChecks (tiersOf n (rowsFrom s i k)) ≡ 0 → (j : ℕ) → i ≤ j → j < i + k → rowAt s j .schema ≡ n
+tier-at : (n : ℕ) (s : List ℕ) (i k : ℕ) → tierChecks tierCheck (tiersOf n (rowsFrom s i k)) ≡ 0 → (j : ℕ) → i ≤ j → j < i + k → rowAt s j .schema ≡ n
     → tierCheck (rowAt s j) ≡ 0
 unfolding tiersOf rowsFrom
 tier-at n s i zero h j p q e = absurd (omega arith)
@@ -221,38 +221,66 @@ tier-at n s i (suc k) h j p q e =
         (here (ap (λ (x : ℕ). eqb (rowAt s x .schema) n) (sym z) ∙ ap (λ (x : ℕ). eqb x n) e ∙ yes-eq n))
     go (no z) here later = later (omega arith) (omega arith) e
 
-pub schema-at : (rs : List Row) (j k : ℕ) → schemaChecks j k rs ≡ 0 → (n : ℕ) → j ≤ n → n < j + k → schemaCheck (tiersOf n rs) ≡ 0
+pub schema-at : (rs : List Row) (j k : ℕ) → schemaChecks tierCheck j k rs ≡ 0 → (n : ℕ) → j ≤ n → n < j + k → schemaCheck tierCheck (tiersOf n rs) ≡ 0
 unfolding schemaChecks
 schema-at rs j zero h n p q = absurd (omega arith)
 schema-at rs j (suc k) h n p q =
     let z = each-zero _ h in
     go (ℕ-discrete n j) (z 0) (schema-at rs (suc j) k (z 1) n)
   where
-    go : Dec (n ≡ j) → schemaCheck (tiersOf j rs) ≡ 0 → (suc j ≤ n → n < suc j + k → schemaCheck (tiersOf n rs) ≡ 0) → schemaCheck (tiersOf n rs) ≡ 0
-    go (yes z) here later = subst (λ (x : ℕ). schemaCheck (tiersOf x rs) ≡ 0) (sym z) here
+    go : Dec (n ≡ j) → schemaCheck tierCheck (tiersOf j rs) ≡ 0 → (suc j ≤ n → n < suc j + k → schemaCheck tierCheck (tiersOf n rs) ≡ 0) → schemaCheck tierCheck (tiersOf n rs) ≡ 0
+    go (yes z) here later = subst (λ (x : ℕ). schemaCheck tierCheck (tiersOf x rs) ≡ 0) (sym z) here
     go (no z) here later = later (omega arith) (omega arith)
 
 -- a schema that passes has tiers, a series, and tiers that pass
-pub schema-parts : (r : Row) (rs : List Row) → schemaCheck (r ∷ rs) ≡ 0
-    → (0 < r .series) × (tierChecks (r ∷ rs) ≡ 0) × (rising r rs ≡ true) × (r .function ≡ 0)
+pub schema-parts : (r : Row) (rs : List Row) → schemaCheck tierCheck (r ∷ rs) ≡ 0
+    → (0 < r .series) × (tierChecks tierCheck (r ∷ rs) ≡ 0) × (rising r rs ≡ true) × (r .function ≡ 0)
 unfolding schemaCheck
 schema-parts r rs h =
     let z = each-zero _ h in
     (lt-is 0 (r .series) (unless-zero _ (z 0)), z 1, unless-zero _ (z 2), eq-is (r .function) 0 (unless-zero _ (z 3)))
 
-tiers-pass : (ts : List Row) → schemaCheck ts ≡ 0 → tierChecks ts ≡ 0
+tiers-pass : (ts : List Row) → schemaCheck tierCheck ts ≡ 0 → tierChecks tierCheck ts ≡ 0
 unfolding schemaCheck
 tiers-pass [] h = absurd (omega arith)
 tiers-pass (r ∷ rs) h = schema-parts r rs h .1
 
-pub layout-parts : (s : List ℕ) → layoutCheck s ≡ 0 → (schemaChecks 0 (schemas s) (rows s) ≡ 0) × (imageLength s ≤ 2 ^ 40)
+pub layout-parts : (s : List ℕ) → layoutCheck tierCheck s ≡ 0 → (schemaChecks tierCheck 0 (schemas s) (rows s) ≡ 0) × (imageLength s ≤ 2 ^ 40)
 unfolding layoutCheck
 layout-parts s h =
     let z = each-zero _ h in
     (z 0, le-is (imageLength s) (2 ^ 40) (unless-zero _ (z 1)))
 
+-- where each tier that f passes g passes, each plan or image that f passes g passes
+module _ {f g : Row → ℕ} (weaker : (r : Row) → f r ≡ 0 → g r ≡ 0) where
+  tiers-weaker : (rs : List Row) → tierChecks f rs ≡ 0 → tierChecks g rs ≡ 0
+  unfolding tierChecks
+  tiers-weaker [] h = refl
+  tiers-weaker (r ∷ rs) h = let z = each-zero _ h in all-zero _ (weaker r (z 0), (tiers-weaker rs (z 1), tt))
+
+  schema-weaker : (rs : List Row) → schemaCheck f rs ≡ 0 → schemaCheck g rs ≡ 0
+  unfolding schemaCheck
+  schema-weaker [] h = h
+  schema-weaker (r ∷ rs) h = let z = each-zero _ h in all-zero _ (z 0, (tiers-weaker (r ∷ rs) (z 1), (z 2, (z 3, tt))))
+
+  schemas-weaker : (rs : List Row) (j k : ℕ) → schemaChecks f j k rs ≡ 0 → schemaChecks g j k rs ≡ 0
+  unfolding schemaChecks
+  schemas-weaker rs j zero h = refl
+  schemas-weaker rs j (suc k) h = let z = each-zero _ h in all-zero _ (schema-weaker (tiersOf j rs) (z 0), (schemas-weaker rs (suc j) k (z 1), tt))
+
+  layout-weaker : (s : List ℕ) → layoutCheck f s ≡ 0 → layoutCheck g s ≡ 0
+  unfolding layoutCheck
+  layout-weaker s h = let z = each-zero _ h in all-zero _ (schemas-weaker (rows s) 0 (schemas s) (z 0), (z 1, tt))
+
+-- what passes creation's check of its tiers passes opening's
+pub plan-opens : (s : List ℕ) → layoutCheck newTierCheck s ≡ 0 → layoutCheck tierCheck s ≡ 0
+plan-opens s = layout-weaker new-tier s
+  where
+    new-tier : (r : Row) → newTierCheck r ≡ 0 → tierCheck r ≡ 0
+    new-tier r h = unfold newTierCheck in h
+
 -- every row of an image or a plan that passes is a tier that passes
-pub tiers-ok : (s : List ℕ) → Shape s → layoutCheck s ≡ 0 → (i : ℕ) → i < rowCount s → TierOk (rowAt s i)
+pub tiers-ok : (s : List ℕ) → Shape s → layoutCheck tierCheck s ≡ 0 → (i : ℕ) → i < rowCount s → TierOk (rowAt s i)
 unfolding rows
 tiers-ok s p h i l =
     let n = rowAt s i .schema in
@@ -319,7 +347,7 @@ tiers-sizes n (r ∷ rs) = ap (keepRow (eqb (r .schema) n) (sized r)) (tiers-siz
     go true = unfold keepRow in refl
     go false = unfold keepRow in refl
 
-tierChecks-sizes : (rs : List Row) → tierChecks (sizes rs) ≡ tierChecks rs
+tierChecks-sizes : (rs : List Row) → tierChecks tierCheck (sizes rs) ≡ tierChecks tierCheck rs
 unfolding tierChecks sizes sized tierCheck rowSlots
 tierChecks-sizes [] = refl
 tierChecks-sizes (r ∷ rs) = ap (λ (x : ℕ). first (tierCheck r ∷ x ∷ [])) (tierChecks-sizes rs)
@@ -329,12 +357,12 @@ unfolding rising sizes sized
 rising-sizes p [] = refl
 rising-sizes p (q ∷ rs) = ap (λ (b : Bool). ltb (p .interval) (q .interval) && b) (rising-sizes q rs)
 
-schema-sizes : (rs : List Row) → schemaCheck (sizes rs) ≡ schemaCheck rs
+schema-sizes : (rs : List Row) → schemaCheck tierCheck (sizes rs) ≡ schemaCheck tierCheck rs
 unfolding schemaCheck sizes
 schema-sizes [] = refl
 schema-sizes (r ∷ rs) = rw (tierChecks-sizes (r ∷ rs), rising-sizes r rs) (unfold sized in refl)
 
-schemas-sizes : (rs : List Row) (j k : ℕ) → schemaChecks j k (sizes rs) ≡ schemaChecks j k rs
+schemas-sizes : (rs : List Row) (j k : ℕ) → schemaChecks tierCheck j k (sizes rs) ≡ schemaChecks tierCheck j k rs
 unfolding schemaChecks
 schemas-sizes rs j zero = refl
 schemas-sizes rs j (suc k) = rw (tiers-sizes j rs, schema-sizes (tiersOf j rs), schemas-sizes rs (suc j) k)
@@ -359,11 +387,11 @@ pub imageLength-like : (t s : List ℕ) → Like t s → imageLength t ≡ image
 unfolding imageLength rows
 imageLength-like t s p = rw (p .count-is) (slabsEnd-like t s p (rowPlace (rowCount s)) (rowCount s) (omega arith))
 
-pub layout-like : (t s : List ℕ) → Like t s → layoutCheck t ≡ layoutCheck s
+pub layout-like : (t s : List ℕ) → Like t s → layoutCheck tierCheck t ≡ layoutCheck tierCheck s
 unfolding layoutCheck rows
 layout-like t s p =
     let r = sizes-alike t s 0 (rowCount s) (λ j a b. p .alike j (omega arith)) in
-    let f = schemaChecks 0 (schemas s) in
+    let f = schemaChecks tierCheck 0 (schemas s) in
     let e : f (rowsFrom t 0 (rowCount s)) ≡ f (rowsFrom s 0 (rowCount s)) = sym (schemas-sizes (rowsFrom t 0 (rowCount s)) 0 (schemas s)) ∙ ap f r
     ∙ schemas-sizes (rowsFrom s 0 (rowCount s)) 0 (schemas s) in
     rw (imageLength-like t s p, p .schemas-is, p .count-is, e)

@@ -11,7 +11,7 @@ use lib.ListN.{length}
 use lib.Dec.{leb, eqb}
 use Rattle.model.specs.declared.Row.{Row}
 use Rattle.model.specs.Bytes.{get}
-use Rattle.model.specs.Image.{schemas, rowCount, totalLength, rowPlace, rowAt, rowsFrom, rows, rowSlots, rowLength, every, slabsEnd, imageLength, layoutCheck, placed, slabOf, soundFields, sound, soundAll, openCheck}
+use Rattle.model.specs.Image.{tierCheck, schemas, rowCount, totalLength, rowPlace, rowAt, rowsFrom, rows, rowSlots, rowLength, every, slabsEnd, imageLength, layoutCheck, placed, slabOf, soundFields, sound, soundAll, openCheck}
 use Rattle.laws.specs.Tests.{yes-le, yes-eq, le-is, eq-is, split3}
 use Rattle.laws.specs.Checks.{each-zero, all-zero, unless-zero, unless-on}
 use Rattle.laws.specs.Bytes.{length-part}
@@ -40,7 +40,7 @@ start-high s i h =
 
 pub record Good (s : List ℕ) : Type 0 where
   pub shape-is : Shape s
-  pub layout-is : layoutCheck s ≡ 0
+  pub layout-is : layoutCheck tierCheck s ≡ 0
   pub total-is : totalLength s ≡ imageLength s
   pub offset-is : (i : ℕ) → i < rowCount s → rowAt s i .offset ≡ slabStart s i
   pub len-is : (i : ℕ) → i < rowCount s → rowAt s i .len ≡ rowLength (rowAt s i)

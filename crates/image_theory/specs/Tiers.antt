@@ -11,7 +11,7 @@ use mathlib.Core.List.{List, [], _∷_}
 use lib.ListN.{length}
 use lib.Dec.{eqb}
 use Rattle.model.specs.declared.Row.{Row}
-use Rattle.model.specs.Image.{schemas, rowCount, rowAt, rowsFrom, rows, keepRow, tiersOf, schemaCheck, layoutCheck}
+use Rattle.model.specs.Image.{tierCheck, schemas, rowCount, rowAt, rowsFrom, rows, keepRow, tiersOf, schemaCheck, layoutCheck}
 use Rattle.model.specs.Lent.{Lent, tiers, firstRow, rowNo}
 use Rattle.model.specs.Record.{seriesOf}
 use Rattle.laws.specs.Tests.{yes-eq, no-eq, eq-is}
@@ -140,11 +140,11 @@ module _ (s : List ℕ) (p : Shape s) where
       found = unfold rows in (rw zero-add at (tier-row-from k s 0 (rowCount s) j (λ x y a b c. schema-le s p x y b (omega arith)) (unfold rows in h)))
 
   -- a schema that passes has a finest tier
-  pub some-tier : layoutCheck s ≡ 0 → (k : ℕ) → k < schemas s → 0 < length (tiersOf k (rows s))
+  pub some-tier : layoutCheck tierCheck s ≡ 0 → (k : ℕ) → k < schemas s → 0 < length (tiersOf k (rows s))
   unfolding schemaCheck
   some-tier h k l = go (tiersOf k (rows s)) (schema-at (rows s) 0 (schemas s) (layout-parts s h .0) k (omega arith) (omega arith))
     where
-      go : (ts : List Row) → schemaCheck ts ≡ 0 → 0 < length ts
+      go : (ts : List Row) → schemaCheck tierCheck ts ≡ 0 → 0 < length ts
       go [] e = absurd (omega arith)
       go (t ∷ ts) e = omega arith
 

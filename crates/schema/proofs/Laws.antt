@@ -55,13 +55,14 @@ module _ (s : List ℕ) (n i j : ℕ) (h : i < n) {r : Row} (is : r ≡ rowAt s 
   taken : tiersOf j (rowsTo s n i) ≡ r ∷ tiersOf j (rowsTo s n (i + 1))
   taken = tiers-take s n i j h is e ∙ ap (λ q. q ∷ tiersOf j (rowsTo s n (i + 1))) (sym is)
 
-  pub tiers-stop : {x : ℕ} → x ≡ tierCheck r → (x ≡ 0 → ⊥) → x ≡ tierChecks (tiersOf j (rowsTo s n i))
+  -- by a check f of one tier
+  pub tiers-stop : (f : Row → ℕ) {x : ℕ} → x ≡ f r → (x ≡ 0 → ⊥) → x ≡ tierChecks f (tiersOf j (rowsTo s n i))
   unfolding tierChecks
-  tiers-stop f z = rw taken (f ∙ sym (first-stop (tierCheck r) _ (λ y. z (f ∙ y))))
+  tiers-stop f g z = rw taken (g ∙ sym (first-stop (f r) _ (λ y. z (g ∙ y))))
 
-  pub tiers-on : tierCheck r ≡ 0 → tierChecks (tiersOf j (rowsTo s n (i + 1))) ≡ tierChecks (tiersOf j (rowsTo s n i))
+  pub tiers-on : (f : Row → ℕ) → f r ≡ 0 → tierChecks f (tiersOf j (rowsTo s n (i + 1))) ≡ tierChecks f (tiersOf j (rowsTo s n i))
   unfolding tierChecks
-  tiers-on f = rw taken (sym (first-on _ f ∙ first-one _))
+  tiers-on f g = rw taken (sym (first-on _ g ∙ first-one _))
 
   -- ---- 6
 
@@ -70,9 +71,9 @@ module _ (s : List ℕ) (n i j : ℕ) (h : i < n) {r : Row} (is : r ≡ rowAt s 
   unfolding rising
   rising-on good p = rw taken (and-assoc good _ _)
 
-pub checks-end : (s : List ℕ) (n i j : ℕ) → n ≤ i → tierChecks (tiersOf j (rowsTo s n i)) ≡ 0
+pub checks-end : (f : Row → ℕ) (s : List ℕ) (n i j : ℕ) → n ≤ i → tierChecks f (tiersOf j (rowsTo s n i)) ≡ 0
 unfolding tierChecks
-checks-end s n i j h = rw (tiers-end s n i j h)
+checks-end f s n i j h = rw (tiers-end s n i j h)
 
 pub rising-end : (s : List ℕ) (n i j : ℕ) (good : Bool) (p : Row) → n ≤ i → good && rising p (tiersOf j (rowsTo s n i)) ≡ good
 unfolding rising
@@ -80,34 +81,34 @@ rising-end s n i j good p h = rw (tiers-end s n i j h) (and-true good)
 
 -- ---- one schema, by where its first tier stands
 
-module _ (s : List ℕ) (n j : ℕ) {f : First} (e : tiersOf j (rowsTo s n 0) ≡ tiersAt s n j f) where
-  pub schema-2 : f ≡ Missing → 2 ≡ schemaCheck (tiersOf j (rowsTo s n 0))
+module _ (f : Row → ℕ) (s : List ℕ) (n j : ℕ) {found : First} (e : tiersOf j (rowsTo s n 0) ≡ tiersAt s n j found) where
+  pub schema-2 : found ≡ Missing → 2 ≡ schemaCheck f (tiersOf j (rowsTo s n 0))
   unfolding schemaCheck
   schema-2 m = let z : tiersOf j (rowsTo s n 0) ≡ [] = e ∙ ap (tiersAt s n j) m in rw z
 
-  module _ {i : ℕ} (m : f ≡ At i) {r : Row} (is : r ≡ rowAt s i) where
+  module _ {i : ℕ} (m : found ≡ At i) {r : Row} (is : r ≡ rowAt s i) where
     abbrev rest : List Row
     rest = tiersOf j (rowsTo s n (i + 1))
 
     tiers-are : tiersOf j (rowsTo s n 0) ≡ r ∷ rest
     tiers-are = e ∙ ap (tiersAt s n j) m ∙ ap (λ q. q ∷ rest) (sym is)
 
-    pub schema-3 : r .series ≡ 0 → 3 ≡ schemaCheck (tiersOf j (rowsTo s n 0))
+    pub schema-3 : r .series ≡ 0 → 3 ≡ schemaCheck f (tiersOf j (rowsTo s n 0))
     unfolding schemaCheck first unless
     schema-3 z = rw (tiers-are, z)
 
     module _ (a : r .series ≡ 0 → ⊥) where
-      past-3 : schemaCheck (tiersOf j (rowsTo s n 0)) ≡ first (tierChecks (r ∷ rest) ∷ unless (rising r rest) 6 ∷ unless (eqb (r .function) 0) 7 ∷ [])
+      past-3 : schemaCheck f (tiersOf j (rowsTo s n 0)) ≡ first (tierChecks f (r ∷ rest) ∷ unless (rising r rest) 6 ∷ unless (eqb (r .function) 0) 7 ∷ [])
       unfolding schemaCheck first unless
       past-3 = let z : ltb 0 (r .series) ≡ true = lt-ltb 0 (r .series) (omega arith) in rw (tiers-are, z)
 
-      pub schema-tiers : {x : ℕ} → x ≡ tierChecks (tiersOf j (rowsTo s n 0)) → (x ≡ 0 → ⊥) → x ≡ schemaCheck (tiersOf j (rowsTo s n 0))
-      schema-tiers q z = let p = q ∙ ap tierChecks tiers-are in p ∙ sym (past-3 ∙ first-stop (tierChecks (r ∷ rest)) _ (λ y. z (p ∙ y)))
+      pub schema-tiers : {x : ℕ} → x ≡ tierChecks f (tiersOf j (rowsTo s n 0)) → (x ≡ 0 → ⊥) → x ≡ schemaCheck f (tiersOf j (rowsTo s n 0))
+      schema-tiers q z = let p = q ∙ ap (tierChecks f) tiers-are in p ∙ sym (past-3 ∙ first-stop (tierChecks f (r ∷ rest)) _ (λ y. z (p ∙ y)))
 
       -- what is left past the tiers' own checks: 6, then 7
-      pub past-tiers : tierChecks (tiersOf j (rowsTo s n 0)) ≡ 0 → {rises : Bool} → rises ≡ rising r rest
-          → schemaCheck (tiersOf j (rowsTo s n 0)) ≡ first (unless rises 6 ∷ unless (eqb (r .function) 0) 7 ∷ [])
-      past-tiers b c = past-3 ∙ first-on _ (ap tierChecks (sym tiers-are) ∙ b) ∙ ap (λ q. first (unless q 6 ∷ unless (eqb (r .function) 0) 7 ∷ [])) (sym c)
+      pub past-tiers : tierChecks f (tiersOf j (rowsTo s n 0)) ≡ 0 → {rises : Bool} → rises ≡ rising r rest
+          → schemaCheck f (tiersOf j (rowsTo s n 0)) ≡ first (unless rises 6 ∷ unless (eqb (r .function) 0) 7 ∷ [])
+      past-tiers b c = past-3 ∙ first-on _ (ap (tierChecks f) (sym tiers-are) ∙ b) ∙ ap (λ q. first (unless q 6 ∷ unless (eqb (r .function) 0) 7 ∷ [])) (sym c)
 
 module _ {x : ℕ} (rises : Bool) (function : ℕ) (left : x ≡ first (unless rises 6 ∷ unless (eqb function 0) 7 ∷ [])) where
   pub schema-6 : rises ≡ false → 6 ≡ x
@@ -124,20 +125,20 @@ module _ {x : ℕ} (rises : Bool) (function : ℕ) (left : x ≡ first (unless r
 
 -- ---- the schemas
 
-module _ (j k : ℕ) (rs : List Row) (h : j < k) where
-  one : schemaChecks j (k - j) rs ≡ first (schemaCheck (tiersOf j rs) ∷ schemaChecks (suc j) (k - (j + 1)) rs ∷ [])
+module _ (f : Row → ℕ) (j k : ℕ) (rs : List Row) (h : j < k) where
+  one : schemaChecks f j (k - j) rs ≡ first (schemaCheck f (tiersOf j rs) ∷ schemaChecks f (suc j) (k - (j + 1)) rs ∷ [])
   unfolding schemaChecks
   one = let e : k - j ≡ suc (k - (j + 1)) = omega arith in rw e
 
-  pub schemas-stop : {x : ℕ} → x ≡ schemaCheck (tiersOf j rs) → (x ≡ 0 → ⊥) → x ≡ schemaChecks j (k - j) rs
-  schemas-stop e z = e ∙ sym (one ∙ first-stop (schemaCheck (tiersOf j rs)) _ (λ y. z (e ∙ y)))
+  pub schemas-stop : {x : ℕ} → x ≡ schemaCheck f (tiersOf j rs) → (x ≡ 0 → ⊥) → x ≡ schemaChecks f j (k - j) rs
+  schemas-stop e z = e ∙ sym (one ∙ first-stop (schemaCheck f (tiersOf j rs)) _ (λ y. z (e ∙ y)))
 
-  pub schemas-on : schemaCheck (tiersOf j rs) ≡ 0 → schemaChecks (j + 1) (k - (j + 1)) rs ≡ schemaChecks j (k - j) rs
+  pub schemas-on : schemaCheck f (tiersOf j rs) ≡ 0 → schemaChecks f (j + 1) (k - (j + 1)) rs ≡ schemaChecks f j (k - j) rs
   schemas-on e = sym (one ∙ first-on _ e ∙ first-one _ ∙ rw add-one)
 
-pub schemas-end : (j k : ℕ) (rs : List Row) → k ≤ j → schemaChecks j (k - j) rs ≡ 0
+pub schemas-end : (f : Row → ℕ) (j k : ℕ) (rs : List Row) → k ≤ j → schemaChecks f j (k - j) rs ≡ 0
 unfolding schemaChecks
-schemas-end j k rs h = let e : k - j ≡ 0 = omega arith in rw e
+schemas-end f j k rs h = let e : k - j ≡ 0 = omega arith in rw e
 
-pub schemas-all : (k : ℕ) (rs : List Row) → schemaChecks 0 (k - 0) rs ≡ schemaChecks 0 k rs
-schemas-all k rs = rw sub-zero
+pub schemas-all : (f : Row → ℕ) (k : ℕ) (rs : List Row) → schemaChecks f 0 (k - 0) rs ≡ schemaChecks f 0 k rs
+schemas-all f k rs = rw sub-zero

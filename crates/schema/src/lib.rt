@@ -52,7 +52,7 @@ fn first_tier(s: &[u8], n: usize, j: u64) -> First
 // 4 then 5 of each tier of schema j.
 fn check_tiers(s: &[u8], n: usize, j: u64) -> model::Outcome
     requires { ⌜ 32 + 64 * n ≤ length (now s) ⌝ }
-    ensures { λ r. ⌜ outcomeNo r ≡ tierChecks (tiersOf j (rowsTo (now (s .entry)) n 0)) ⌝ }
+    ensures { λ r. ⌜ outcomeNo r ≡ tierChecks tierCheck (tiersOf j (rowsTo (now (s .entry)) n 0)) ⌝ }
 {
     let mut i = 0;
     while i < n {
@@ -94,7 +94,7 @@ fn is_rising(s: &[u8], n: usize, j: u64, from: usize, p: model::Row) -> bool
 // Schema j.
 pub fn check_schema(s: &[u8], n: usize, j: u64) -> model::Outcome
     requires { ⌜ 32 + 64 * n ≤ length (now s) ⌝ }
-    ensures { λ r. ⌜ outcomeNo r ≡ schemaCheck (tiersOf j (rowsTo (now (s .entry)) n 0)) ⌝ }
+    ensures { λ r. ⌜ outcomeNo r ≡ schemaCheck tierCheck (tiersOf j (rowsTo (now (s .entry)) n 0)) ⌝ }
 {
     let First::At(i) = first_tier(s, n, j) else {
         return model::Outcome::Refused(model::Refusal::NoTiers);
@@ -121,7 +121,7 @@ pub fn check_schema(s: &[u8], n: usize, j: u64) -> model::Outcome
 // The schemas below k.
 pub fn check_schemas(s: &[u8], n: usize, k: u64) -> model::Outcome
     requires { ⌜ 32 + 64 * n ≤ length (now s) ⌝ }
-    ensures { λ r. ⌜ outcomeNo r ≡ schemaChecks 0 k (rowsTo (now (s .entry)) n 0) ⌝ }
+    ensures { λ r. ⌜ outcomeNo r ≡ schemaChecks tierCheck 0 k (rowsTo (now (s .entry)) n 0) ⌝ }
 {
     let mut j: u64 = 0;
     while j < k {

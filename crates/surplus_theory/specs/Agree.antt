@@ -8,6 +8,7 @@ use lib.ListN.{length}
 use Rattle.laws.specs.Tests.{yes-le}
 use Rattle.laws.specs.Bytes.{part-part, get-part}
 use Rattle.model.specs.Bytes.{get, part}
+use Rattle.model.specs.declared.Row.{Row}
 use Rattle.model.specs.Image.{schemas, rowCount, totalLength, rowPlace, markAt, rowAt, rows, imageLength, header, shape, blank, layoutCheck}
 use Rattle.image_theory.specs.Rows.{rowsFrom-same}
 
@@ -68,9 +69,9 @@ module _ {n : ℕ} {s t : List ℕ} (a : Agree n s t) where
     unfolding imageLength
     length-same = rw (rows-same, count-same)
 
-    pub layout-same : layoutCheck s ≡ layoutCheck t
+    pub layout-same : (f : Row → ℕ) → layoutCheck f s ≡ layoutCheck f t
     unfolding layoutCheck
-    layout-same = rw (rows-same, schemas-same, length-same)
+    layout-same f = rw (rows-same, schemas-same, length-same)
 
     pub blank-same : blank s ≡ blank t
     unfolding blank

@@ -11,7 +11,7 @@ use Rattle.laws.specs.Tests.{yes-le, eq-is, split3}
 use Rattle.laws.specs.Checks.{each-zero, unless-zero}
 use Rattle.model.specs.declared.Row.{Row}
 use Rattle.model.specs.Bytes.{part}
-use Rattle.model.specs.Image.{unless, first, rowCount, totalLength, rowPlace, rows, rowLength, slabsEnd, imageLength, shape, layoutCheck, placed, slabOf, soundAll, planCheck, createCheck, openCheck, freshImage}
+use Rattle.model.specs.Image.{tierCheck, newTierCheck, unless, first, rowCount, totalLength, rowPlace, rows, rowLength, slabsEnd, imageLength, shape, layoutCheck, placed, slabOf, soundAll, planCheck, createCheck, openCheck, freshImage}
 use Rattle.model.specs.Lent.{Lent, wrapFlags, openOn, opening, createOn, creation}
 use Rattle.layout.specs.Ends.{ends-ge}
 use Rattle.surplus_theory.specs.Agree.{Agree, part-same, count-same, total-same, rows-same, length-same, layout-same, blank-same, shape-same}
@@ -88,14 +88,14 @@ module _ {s t : List ℕ} (h : SameImage s t) where
   open-same =
       rw (
         ← shape-same a (head-in s) (h .here) (h .there),
-        ← layout-same a (head-in s),
+        ← layout-same a (head-in s) tierCheck,
         ← total-same a (head-in s),
         ← rows-same a (head-in s),
         ← count-same a (head-in s),
         ← length-same a (head-in s),
         long-same,
       )
-      (then-same (unless (shape s) 1) (layoutCheck s) _ _
+      (then-same (unless (shape s) 1) (layoutCheck tierCheck s) _ _
       (last-same (eqb (totalLength s) (imageLength s) && placed (rowPlace (rowCount s)) (rows s) && leb (imageLength s) (length s)) (soundAll s (rows s)) (soundAll t (rows s)) slabs-same))
 
   -- and the same flags
@@ -125,7 +125,7 @@ module _ {p q : List ℕ} (h : SamePlan p q) where
   -- they get the same answer
   pub create-same : (buf : List ℕ) → createCheck p buf ≡ createCheck q buf
   unfolding createCheck planCheck
-  create-same buf = rw (← shape-same b low (h .here) (h .there), ← blank-same b low, ← layout-same b low, ← length-same b low)
+  create-same buf = rw (← shape-same b low (h .here) (h .there), ← blank-same b low, ← layout-same b low newTierCheck, ← length-same b low)
 
   fresh-same : freshImage p ≡ freshImage q
   unfolding freshImage

@@ -6,7 +6,7 @@ use lib.Dec.{eqb}
 use native.Mathlib.Omega.{arith}
 use borrow.Author.Tests.{not-true, not-false}
 use Rattle.model.specs.declared.Row.{Row}
-use Rattle.model.specs.Image.{first, unless, tiersOf, schemaCheck}
+use Rattle.model.specs.Image.{tierCheck, first, unless, tiersOf, schemaCheck}
 use Rattle.rows.specs.Rows.{rowsTo}
 use Rattle.schema.specs.declared.First.the-variants.{At}
 use Rattle.schema.specs.Tiers.{reach}
@@ -47,14 +47,14 @@ all c = let a = start (asked (found c)) .args in tiersOf (a .j) (rowsTo (a .s .n
 abbrev function : tie.After-is-rising → ℕ
 function c = at-row (at-series (c .before)) .row-at .result .function
 
-left : (c : tie.After-is-rising) → schemaCheck (all (at-row (at-series (c .before)))) ≡ first (unless (c .is-rising .result) 6 ∷ unless (eqb (function c) 0) 7 ∷ [])
+left : (c : tie.After-is-rising) → schemaCheck tierCheck (all (at-row (at-series (c .before)))) ≡ first (unless (c .is-rising .result) 6 ∷ unless (eqb (function c) 0) 7 ∷ [])
 left c =
     let p = c .before in
     let k = at-series p in
     let d = at-row k in
     let f = found d in
     let a = start (asked f) .args in
-    laws.past-tiers (a .s .now) (a .n) (a .j) (asked f .first-tier .ensures .0) (f .i .given .1) (d .row-at .ensures) (k .if1 .left)
+    laws.past-tiers tierCheck (a .s .now) (a .n) (a .j) (asked f .first-tier .ensures .0) (f .i .given .1) (d .row-at .ensures) (k .if1 .left)
     (sym (p .before .before .check-tiers .ensures) ∙ accepted (p .enum-told2 .given .1)) (c .is-rising .ensures)
 
 -- ---- the needs
@@ -69,7 +69,7 @@ enum-told : tie.Need-enum-told
 enum-told c = search needs
 
 returns : tie.Need-returns
-returns c = let d = c .before .before in let a = start d .args in laws.schema-2 (a .s .now) (a .n) (a .j) (d .first-tier .ensures .0) (c .enum-told .given .1)
+returns c = let d = c .before .before in let a = start d .args in laws.schema-2 tierCheck (a .s .now) (a .n) (a .j) (d .first-tier .ensures .0) (c .enum-told .given .1)
 
 row-at-requires : tie.Need-row-at-requires
 row-at-requires c κs = omega (arith, below (c .before), start (asked (c .before)) .pre)
@@ -79,7 +79,7 @@ returns-2 c =
     let d = c .before .before in
     let f = found d in
     let a = start (asked f) .args in
-    laws.schema-3 (a .s .now) (a .n) (a .j) (asked f .first-tier .ensures .0) (f .i .given .1) (d .row-at .ensures) (c .if1 .taken)
+    laws.schema-3 tierCheck (a .s .now) (a .n) (a .j) (asked f .first-tier .ensures .0) (f .i .given .1) (d .row-at .ensures) (c .if1 .taken)
 
 check-tiers-requires : tie.Need-check-tiers-requires
 check-tiers-requires c κs = search needs
@@ -97,7 +97,7 @@ returns-3 c =
     let d = at-row k in
     let f = found d in
     let a = start (asked f) .args in
-    laws.schema-tiers (a .s .now) (a .n) (a .j) (asked f .first-tier .ensures .0) (f .i .given .1) (d .row-at .ensures) (k .if1 .left)
+    laws.schema-tiers tierCheck (a .s .now) (a .n) (a .j) (asked f .first-tier .ensures .0) (f .i .given .1) (d .row-at .ensures) (k .if1 .left)
     (t .check-tiers .ensures) (not-accepted (c .enum-told3 .given .1))
 
 add-is-rising : tie.Need-add-is-rising

@@ -4,7 +4,7 @@ use Prim.Native.Nat.{ℕ, _-_, _≤_}
 use native.Mathlib.Omega.{arith}
 use mathlib.Core.Path.{_≡_, sym, _∙_}
 use mathlib.Core.List.{List}
-use Rattle.model.specs.Image.{schemaChecks}
+use Rattle.model.specs.Image.{tierCheck, schemaChecks}
 use Rattle.rows.specs.Rows.{rowsTo}
 use Rattle.rows.specs.First.{accepted, not-accepted}
 use Rattle.schema.proofs.Laws as laws
@@ -14,7 +14,7 @@ use Rattle.schema.proofs.check_schemas.Tie as tie
 -- the schemas before schema j passed
 record Passed (s : List ℕ) (n k j : ℕ) : Type 0 where
   in-schemas : j ≤ k
-  passed : schemaChecks j (k - j) (rowsTo s n 0) ≡ schemaChecks 0 k (rowsTo s n 0)
+  passed : schemaChecks tierCheck j (k - j) (rowsTo s n 0) ≡ schemaChecks tierCheck 0 k (rowsTo s n 0)
 
 abbrev Inv-loop : tie.InvT-loop
 Inv-loop s n k j₀ j = Passed s n k j
@@ -30,7 +30,7 @@ abbrev start : tie.At-loop Inv-loop μ-loop → tie.Start Inv-loop μ-loop
 start c = c .before .before
 
 loop-holds : tie.Need-loop-holds Inv-loop μ-loop
-loop-holds c = record { in-schemas = omega arith; passed = laws.schemas-all _ _ }
+loop-holds c = record { in-schemas = omega arith; passed = laws.schemas-all tierCheck _ _ }
 
 check-schema-requires : tie.Need-check-schema-requires Inv-loop μ-loop
 check-schema-requires c κs = search needs
@@ -46,7 +46,7 @@ returns c =
     let d = c .before .before in
     let l = head d .loop in
     let k = start (head d) .args .k in
-    laws.schemas-stop (l .j) k _ (d .before .loop-test .taken) (d .check-schema .ensures) (not-accepted (c .enum-told2 .given .1)) ∙ l .inv .passed
+    laws.schemas-stop tierCheck (l .j) k _ (d .before .loop-test .taken) (d .check-schema .ensures) (not-accepted (c .enum-told2 .given .1)) ∙ l .inv .passed
 
 add-j : tie.Need-add-j Inv-loop μ-loop
 add-j c = search needs
@@ -62,13 +62,13 @@ loop-again c =
     let t = d .before .loop-test .taken in
     record {
       in-schemas = omega (arith, t);
-      passed = laws.schemas-on (l .j) k _ t (sym (d .check-schema .ensures) ∙ accepted (c .enum-told .given .1)) ∙ l .inv .passed;
+      passed = laws.schemas-on tierCheck (l .j) k _ t (sym (d .check-schema .ensures) ∙ accepted (c .enum-told .given .1)) ∙ l .inv .passed;
     }
 
 returns-2 : tie.Need-returns-2 Inv-loop μ-loop
 returns-2 c =
     let l = c .before .loop in
-    sym (laws.schemas-end (l .j) (start (c .before) .args .k) _ (c .loop-test .left)) ∙ l .inv .passed
+    sym (laws.schemas-end tierCheck (l .j) (start (c .before) .args .k) _ (c .loop-test .left)) ∙ l .inv .passed
 
 pub check-schemas-spec : {M : Type 1} → statement M
 check-schemas-spec =

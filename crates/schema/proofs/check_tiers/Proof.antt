@@ -4,7 +4,7 @@ use Prim.Native.Nat.{ℕ, _-_, _≤_}
 use native.Mathlib.Omega.{arith}
 use mathlib.Core.Path.{_≡_, refl, sym, _∙_}
 use mathlib.Core.List.{List}
-use Rattle.model.specs.Image.{tiersOf, tierChecks}
+use Rattle.model.specs.Image.{tierCheck, tiersOf, tierChecks}
 use Rattle.rows.specs.Rows.{rowsTo}
 use Rattle.rows.specs.Checks.{good, not-good}
 use Rattle.schema.proofs.Laws.{tiers-skip, tiers-stop, tiers-on, checks-end}
@@ -14,7 +14,7 @@ use Rattle.schema.proofs.check_tiers.Tie as tie
 -- the tiers before row i passed
 record Passed (s : List ℕ) (n j i : ℕ) : Type 0 where
   in-rows : i ≤ n
-  passed : tierChecks (tiersOf j (rowsTo s n i)) ≡ tierChecks (tiersOf j (rowsTo s n 0))
+  passed : tierChecks tierCheck (tiersOf j (rowsTo s n i)) ≡ tierChecks tierCheck (tiersOf j (rowsTo s n 0))
 
 abbrev Inv-loop : tie.InvT-loop
 Inv-loop s n j i₀ i = Passed s n j i
@@ -78,7 +78,7 @@ returns c =
     let l = head d .loop in
     let a = start (head d) .args in
     let o = c .outcome-of .ensures in
-    tiers-stop (a .s .now) (a .n) (l .i) (a .j) (d .before .loop-test .taken) (d .row-at .ensures) (k .before .if1 .left)
+    tiers-stop (a .s .now) (a .n) (l .i) (a .j) (d .before .loop-test .taken) (d .row-at .ensures) (k .before .if1 .left) tierCheck
     (o ∙ k .checked-tier .ensures .number) (λ z. not-good (c .before .enum-told2 .given .1) (sym o ∙ z)) ∙ l .inv .passed
 
 add-i-2 : tie.Need-add-i-2 Inv-loop μ-loop
@@ -97,14 +97,14 @@ loop-again-2 c =
     let tier = good (k .checked-tier .ensures) (c .enum-told .given .1) .0 in
     record {
       in-rows = omega (arith, t);
-      passed = tiers-on (a .s .now) (a .n) (l .i) (a .j) t (d .row-at .ensures) (k .before .if1 .left) tier ∙ l .inv .passed;
+      passed = tiers-on (a .s .now) (a .n) (l .i) (a .j) t (d .row-at .ensures) (k .before .if1 .left) tierCheck tier ∙ l .inv .passed;
     }
 
 returns-2 : tie.Need-returns-2 Inv-loop μ-loop
 returns-2 c =
     let l = c .before .loop in
     let a = start (c .before) .args in
-    sym (checks-end (a .s .now) (a .n) (l .i) (a .j) (c .loop-test .left)) ∙ l .inv .passed
+    sym (checks-end tierCheck (a .s .now) (a .n) (l .i) (a .j) (c .loop-test .left)) ∙ l .inv .passed
 
 pub check-tiers-spec : {M : Type 1} → statement M
 check-tiers-spec =
