@@ -72,7 +72,8 @@ module _ {M : Type 1} (𝓤 : URA M) (H : Heap 𝓤) (A : Atoms 𝓤) (W : Given
   puts κ t x f is =
       qed W (‵ (Own κ x) ∷ []) ∵
       nothing ! $ owned ! usize (Is usize) (uint-makes 𝓤 H A W w64) (t .left) _ (refl, f .1 .1 .1 .1) $ fjoin ! $ owned ! usize (Is usize) (uint-makes 𝓤 H A W w64) (t .slot) _ (refl, f .1 .1 .1 .0) $ fjoin ! $
-      owned ! u64 (Is u64) (uint-makes 𝓤 H A W w64) (t .end) _ (refl, f .1 .1 .0) $ fjoin ! $ owned ! u64 (Is u64) (uint-makes 𝓤 H A W w64) (t .start) _ (refl, f .1 .0) $ fjoin ! $ owned ! u32 (Is u32) (uint-makes 𝓤 H A W w32) (t .column) _ (refl, f .0) $ fjoin ! $
+      owned ! u64 (Is u64) (uint-makes 𝓤 H A W w64) (t .end) _ (refl, f .1 .1 .0) $ fjoin ! $ owned ! u64 (Is u64) (uint-makes 𝓤 H A W w64) (t .start) _ (refl, f .1 .0) $
+      fjoin ! $ owned ! u32 (Is u32) (uint-makes 𝓤 H A W w32) (t .column) _ (refl, f .0) $ fjoin ! $
       move ! (1 ∷ 0 ∷ []) $ fjoin ! $
       use1 W (‵ (T.the-row (α κ) .own (rd t x) (T′.lowered (rd t x) ∷ []))) (own-shut 𝓤 H A W (T.the-type (α κ)) (T′.the-laws (α κ)) (x, (t .column, (t .start, (t .end, (t .slot, (t .left, tt))))))) $
       nothing ! $ move ! (1 ∷ 0 ∷ []) $ fjoin ! $ owned ! P.the-row (Is P.the-row) (EL.makes P.the-type P′.the-plain 𝓤 H A) (t .queried) _ is $ fjoin ! $
@@ -93,12 +94,15 @@ module _ {M : Type 1} (𝓤 : URA M) (H : Heap 𝓤) (A : Atoms 𝓤) (mem : Mem
   abbrev pub to-part : Lft → Share → RefT (List ℕ) → Start → PartC .Ghost
   to-part κ q s t = (((κ, tt), (q, tt), tt, args s t, passed κ s t), tt)
 
-  pub goes-part : Given 𝓤 H A → (κ : Lft) (q : Share) (s : RefT (List ℕ)) (t : Start) → t .from < 2 ^ 64 → t .to < 2 ^ 64 → ent 𝓤 (⋆ 𝓤 H A ((‵ (flft κ q) ⊛ ‵ ftrue) ∷ ‵ (Own κ s) ∷ [])) (sep 𝓤 (PartC .pre (to-part κ q s t)) (sem 𝓤 H A (Own κ s)))
+  pub goes-part : Given 𝓤 H A → (κ : Lft) (q : Share) (s : RefT (List ℕ)) (t : Start) → t .from < 2 ^ 64 → t .to < 2 ^ 64
+      → ent 𝓤 (⋆ 𝓤 H A ((‵ (flft κ q) ⊛ ‵ ftrue) ∷ ‵ (Own κ s) ∷ [])) (sep 𝓤 (PartC .pre (to-part κ q s t)) (sem 𝓤 H A (Own κ s)))
   goes-part W κ q s t ff fo =
       qed W ((‵ (flft κ q) ⊛ ‵ ftrue) ∷ ‵ (Own κ s) ∷ []) ∵
       move ! (1 ∷ []) $ use1 W (‵ (Own κ s) ⊛ ‵ (Own κ s)) (shr-slice-copy 𝓤 H A W (named 0) κ u8 .twice s (slice-vals s)) $ split ! $
-      nothing ! $ owned ! usize (Is usize) (uint-makes 𝓤 H A W w64) (t .to) _ (refl, fo) $ fjoin ! $ owned ! usize (Is usize) (uint-makes 𝓤 H A W w64) (t .from) _ (refl, ff) $ fjoin ! $ move ! (1 ∷ 0 ∷ []) $ fjoin ! $ move ! (2 ∷ 0 ∷ []) $
+      nothing ! $ owned ! usize (Is usize) (uint-makes 𝓤 H A W w64) (t .to) _ (refl, fo) $ fjoin ! $
+      owned ! usize (Is usize) (uint-makes 𝓤 H A W w64) (t .from) _ (refl, ff) $ fjoin ! $ move ! (1 ∷ 0 ∷ []) $ fjoin ! $ move ! (2 ∷ 0 ∷ []) $
       use2 W (raw (PartC .pre (to-part κ q s t))) (qed W ((‵ (flft κ q) ⊛ ‵ ftrue) ∷ ‵ (owns (ShrSlice (named 0) κ u8 ∷ usize ∷ usize ∷ []) (args s t) (passed κ s t)) ∷ []) ∵ join ! $ frame ! $ done !) $ frame ! $ done !
 
-  pub part-said : (κ : Lft) (s : RefT (List ℕ)) (t : Start) (x : RefT (List ℕ)) → ent 𝓤 (ensured 𝓤 H A part.ended (part.clauses 𝓤 H A mem run) (κ, tt) (args s t) tt x) (fact 𝓤 (now x ≡ partOf (now s) (t .from) (t .to - t .from)))
+  pub part-said : (κ : Lft) (s : RefT (List ℕ)) (t : Start) (x : RefT (List ℕ))
+      → ent 𝓤 (ensured 𝓤 H A part.ended (part.clauses 𝓤 H A mem run) (κ, tt) (args s t) tt x) (fact 𝓤 (now x ≡ partOf (now s) (t .from) (t .to - t .from)))
   part-said κ s t x = exE 𝓤 _ (λ ws. snd∗ 𝓤 (sem 𝓤 H A (lasts part.ended (κ, tt) (args s t) ws)) (fact 𝓤 (now x ≡ partOf (now s) (t .from) (t .to - t .from))))

@@ -1,4 +1,5 @@
--- `store::consolidate` meets its contract: a walk of its MIR, by hand. The borrow of the flags is opened, the flags are copied out, the image goes on to `consolidate::consolidate` for good, the flags that it answers are stored whole, and the borrow is closed at them.
+-- `store::consolidate` meets its contract: a walk of its MIR, by hand. The borrow of the flags is opened, the flags are copied out, the image goes on to
+-- `consolidate::consolidate` for good, the flags that it answers are stored whole, and the borrow is closed at them.
 -- Assumes nothing.
 use mathlib.Core.Path.{_≡_, refl, ap}
 use Prim.Native.Nat.{ℕ}
@@ -76,7 +77,8 @@ Core 𝓤 H A mem run = tripleOf 𝓤 H A core.signature (core.spec 𝓤 H A mem
 abbrev cv : Consolidated → Val
 cv a = EL.val P.the-type P′.the-laws a
 
-module _ {M : Type 1} (𝓤 : URA M) (H : Heap 𝓤) (A : Atoms 𝓤) (W : Given 𝓤 H A) (at-mem : Memory → SProp 𝓤) (run : Routine → Fun 𝓤) (κ κ′ : Lft) (q q′ : Share) (bi oi : ℕ) (γi : GName) (ys : List ℕ) (b o : ℕ) (γ : GName) (f : Flags) where
+module _ {M : Type 1} (𝓤 : URA M) (H : Heap 𝓤) (A : Atoms 𝓤) (W : Given 𝓤 H A) (at-mem : Memory → SProp 𝓤) (run : Routine → Fun 𝓤)
+    (κ κ′ : Lft) (q q′ : Share) (bi oi : ℕ) (γi : GName) (ys : List ℕ) (b o : ℕ) (γ : GName) (f : Flags) where
   abbrev img : RefT (List ℕ)
   img = record { ptr = (bi, oi); name = γi; now = ys }
 
@@ -116,7 +118,8 @@ module _ {M : Type 1} (𝓤 : URA M) (H : Heap 𝓤) (A : Atoms 𝓤) (W : Given
   Said t zs = runDone zs t ≡ call (lentOf ys f) consolidateCall
 
   exits : (t : Consolidation) (zs : List ℕ) → Said t zs → length zs ≡ length ys → Is P.the-row (t .answer) (cv (t .answer) ∷ [])
-      → ent 𝓤 (⋆ 𝓤 H A (‵ (fobs γ (F.the-row .coded .code (t .flags))) ∷ ‵ (fbor κ′ (Body (mem F.the-row) b o γ)) ∷ ‵ (flft κ′ q′) ∷ (‵ (flft κ q) ⊛ ‵ ftrue) ∷ ‵ (finally u8 γi zs) ∷ [])) (Post (cv (t .answer)))
+      → ent 𝓤 (⋆ 𝓤 H A (‵ (fobs γ (F.the-row .coded .code (t .flags))) ∷ ‵ (fbor κ′ (Body (mem F.the-row) b o γ))
+      ∷ ‵ (flft κ′ q′) ∷ (‵ (flft κ q) ⊛ ‵ ftrue) ∷ ‵ (finally u8 γi zs) ∷ [])) (Post (cv (t .answer)))
   exits t zs e l is =
       qed W (‵ (fobs γ (F.the-row .coded .code (t .flags))) ∷ ‵ (fbor κ′ (Body (mem F.the-row) b o γ)) ∷ ‵ (flft κ′ q′) ∷ (‵ (flft κ q) ⊛ ‵ ftrue) ∷ ‵ (finally u8 γi zs) ∷ []) ∵
       suffices ! _ (ends-at 𝓤 H A fun.ended stayed (fun.clauses 𝓤 H A at-mem run) W (((κ, (κ′, tt)), (q, (q′, tt)), tt, x, at), tt) (cv (t .answer)) (t .answer) (zs, (t .flags, tt)) (l, (tt, tt))) $
@@ -142,11 +145,13 @@ module _ {M : Type 1} (𝓤 : URA M) (H : Heap 𝓤) (A : Atoms 𝓤) (W : Given
         -- [the cell; what the flags own; the open borrow; obs; auth; true; the image's token 6; true; what the image owns 8; _6 9; …; _5 11; _4 13; _3 15; _2 17; _1 19; room for _0 21; …]
         assigns ! (of-opd ! (load ! (from ! (hop ! (look ! 17 refl) (stop !))) (look ! 0 refl))) (from ! (stop !)) (init ! 15 refl (LL.lawful F.the-type F′.the-laws 𝓤 H A W .typed f _ was .0)) $
         assigns ! (addr ! (from ! (fld ! refl (hop ! (look-in ! 19 (sub ! 0 refl (whole !))) (stop !))))) (from ! (stop !)) (init ! 11 refl (tt, tt)) $
-        assigns ! (agg ! (and-then ! (load ! (from ! (stop !)) (look ! 11 refl)) (and-then ! (load ! (from ! (fld ! refl (stop !))) (look-in ! 19 (sub ! 1 refl (whole !)))) (no-more !)))) (from ! (stop !)) (init ! 9 refl (tt, (tt, (record { fits = room .0 }, tt)))) $
+        assigns ! (agg ! (and-then ! (load ! (from ! (stop !)) (look ! 11 refl)) (and-then ! (load ! (from ! (fld ! refl (stop !))) (look-in ! 19 (sub ! 1 refl (whole !)))) (no-more !))))
+        (from ! (stop !)) (init ! 9 refl (tt, (tt, (record { fits = room .0 }, tt)))) $
         -- the call: the image goes for good
         move ! (6 ∷ 8 ∷ []) $ use2 W (raw (Core 𝓤 H A at-mem run .pre to)) (goes was) $
         calls-at ! fm (Core 𝓤 H A at-mem run) known to (and-then ! (load ! (from ! (stop !)) (look ! 8 refl)) (and-then ! (load ! (from ! (stop !)) (look ! 14 refl)) (no-more !))) (λ u.
-        use1 W (later (some (λ (t : Consolidation). ((‵ (flft κ q) ⊛ ‵ ftrue) ⊛ ‵ (G.the-row .own t (u ∷ []))) ⊛ raw (ensured 𝓤 H A core.ended (core.clauses 𝓤 H A at-mem run) (κ, tt) args tt t)))) (id⊢ 𝓤 _) $ await ! tt $ pick ! (λ t.
+        use1 W (later (some (λ (t : Consolidation). ((‵ (flft κ q) ⊛ ‵ ftrue) ⊛ ‵ (G.the-row .own t (u ∷ [])))
+        ⊛ raw (ensured 𝓤 H A core.ended (core.clauses 𝓤 H A at-mem run) (κ, tt) args tt t)))) (id⊢ 𝓤 _) $ await ! tt $ pick ! (λ t.
         split ! $ move ! (1 ∷ []) $ use1 W (some (λ (zs : List ℕ × (Unit {0} × Unit {0})). ‵ (lasts core.ended (κ, tt) args zs) ⊛ raw (fact 𝓤 (Said t (zs .0))))) (id⊢ 𝓤 _) $ pick ! (λ zs.
         split ! $ move ! (1 ∷ []) $ heard ! (Said t (zs .0)) (λ e. fsplit ! $ fsplit ! $ move ! (1 ∷ []) $ feqL ! (λ l.
         move ! (2 ∷ []) $ split ! $ move ! (1 ∷ []) $
@@ -166,14 +171,16 @@ module _ {M : Type 1} (𝓤 : URA M) (H : Heap 𝓤) (A : Atoms 𝓤) (W : Given
         move ! (0 ∷ 1 ∷ 5 ∷ 6 ∷ 7 ∷ []) $ closes ! tt F.the-row (t .flags) (fv (t .flags) ∷ []) b o $
         -- [obs; the borrow; its token; the image's token; the last list; …; …; true; _6 8; …; _0 20; …]
         returns ! (look ! 20 refl) $ forget ! 8 refl $ forget ! 10 refl $ forget ! 12 refl $ forget ! 14 refl $ forget ! 16 refl $ forget ! 18 refl $ forget ! 20 refl $
-        move ! (20 ∷ 21 ∷ []) $ free1 ! $ move ! (18 ∷ 19 ∷ []) $ free1 ! $ move ! (16 ∷ 17 ∷ []) $ free1 ! $ move ! (14 ∷ 15 ∷ []) $ free1 ! $ move ! (12 ∷ 13 ∷ []) $ free1 ! $ move ! (10 ∷ 11 ∷ []) $ free1 ! $ move ! (8 ∷ 9 ∷ []) $ free1 ! $ free0 ! $
+        move ! (20 ∷ 21 ∷ []) $ free1 ! $ move ! (18 ∷ 19 ∷ []) $ free1 ! $ move ! (16 ∷ 17 ∷ []) $ free1 ! $
+        move ! (14 ∷ 15 ∷ []) $ free1 ! $ move ! (12 ∷ 13 ∷ []) $ free1 ! $ move ! (10 ∷ 11 ∷ []) $ free1 ! $ move ! (8 ∷ 9 ∷ []) $ free1 ! $ free0 ! $
         keep ! (0 ∷ 1 ∷ 2 ∷ 3 ∷ 4 ∷ []) $ by ! (exits t (zs .0) e l ia))))))))))))))))
 
 module _ {M : Type 1} (𝓤 : URA M) (H : Heap 𝓤) (A : Atoms 𝓤) (W : Given 𝓤 H A) (mem : Memory → SProp 𝓤) (run : Routine → Fun 𝓤) where
   walks : (C : Calls 𝓤 H) (Λ : Loops 𝓤 H) → FmC 𝓤 H (W .laws) C → Triple 𝓤 (C #consolidate·consolidate) (Core 𝓤 H A mem run) → Walks 𝓤 H A fun.ended stayed (WpFn 𝓤 H C Λ code.function) (fun.clauses 𝓤 H A mem run)
   walks C Λ fm known = walked 𝓤 H A fun.ended stayed (fun.clauses 𝓤 H A mem run) (WpFn 𝓤 H C Λ code.function)
       (λ κs. (slice-vals, (ptr-vals, tt))) (λ κs. (mut-slice-tells (named 0) (κs .0) u8, (mut-tells (named 1) (κs .1 .0) F.the-row, tt)))
-      (λ κs qs bounds a _ are. via 𝓤 _ (fst∗ 𝓤 _ (emp 𝓤)) (walk 𝓤 H A W mem run (κs .0) (κs .1 .0) (qs .0) (qs .1 .0) (a .0 .ptr .0) (a .0 .ptr .1) (a .0 .name) (a .0 .now) (a .1 .0 .ptr .0) (a .1 .0 .ptr .1) (a .1 .0 .name) (a .1 .0 .now) C Λ fm known (are .0 .0 .1)))
+      (λ κs qs bounds a _ are. via 𝓤 _ (fst∗ 𝓤 _ (emp 𝓤)) (walk 𝓤 H A W mem run (κs .0) (κs .1 .0) (qs .0) (qs .1 .0) (a .0 .ptr .0)
+      (a .0 .ptr .1) (a .0 .name) (a .0 .now) (a .1 .0 .ptr .0) (a .1 .0 .ptr .1) (a .1 .0 .name) (a .1 .0 .now) C Λ fm known (are .0 .0 .1)))
 
 meets : {M : Type 1} (𝓤 : URA M) (H : Heap 𝓤) (A : Atoms 𝓤) → Given 𝓤 H A → (mem : Memory → SProp 𝓤) (run : Routine → Fun 𝓤) (𝓣 : Tables 𝓤 H) → Triple 𝓤 (𝓣 .C #consolidate·consolidate) (Core 𝓤 H A mem run)
     → Meets 𝓤 H A fun.signature (WpFn 𝓤 H (𝓣 .C) (𝓣 .Λ) code.function) (fun.spec 𝓤 H A mem run)

@@ -1,4 +1,5 @@
--- `store::create` meets its contract: a walk of its MIR, by hand. The borrow of the flags is opened, the flags are copied out, the image goes on to `create::create` for good, the flags that it answers are stored whole, and the borrow is closed at them; of the plan's bytes a copy is passed.
+-- `store::create` meets its contract: a walk of its MIR, by hand. The borrow of the flags is opened, the flags are copied out, the image goes on to
+-- `create::create` for good, the flags that it answers are stored whole, and the borrow is closed at them; of the plan's bytes a copy is passed.
 -- Assumes nothing.
 use mathlib.Core.Path.{_≡_, refl, ap}
 use Prim.Native.Nat.{ℕ}
@@ -73,7 +74,8 @@ stayed = (stay-none-slice (0 ∷ []) tt (plain (λ _. u8)) yes, (gave-slice (1 �
 abbrev Core : {M : Type 1} (𝓤 : URA M) (H : Heap 𝓤) (A : Atoms 𝓤) (mem : Memory → SProp 𝓤) (run : Routine → Fun 𝓤) → Contract 𝓤
 Core 𝓤 H A mem run = tripleOf 𝓤 H A core.signature (core.spec 𝓤 H A mem run)
 
-module _ {M : Type 1} (𝓤 : URA M) (H : Heap 𝓤) (A : Atoms 𝓤) (W : Given 𝓤 H A) (at-mem : Memory → SProp 𝓤) (run : Routine → Fun 𝓤) (κ₀ κ κ′ : Lft) (q₀ q q′ : Share) (ps : RefT (List ℕ)) (bi oi : ℕ) (γi : GName) (ys : List ℕ) (b o : ℕ) (γ : GName) (f : Flags) where
+module _ {M : Type 1} (𝓤 : URA M) (H : Heap 𝓤) (A : Atoms 𝓤) (W : Given 𝓤 H A) (at-mem : Memory → SProp 𝓤) (run : Routine → Fun 𝓤)
+    (κ₀ κ κ′ : Lft) (q₀ q q′ : Share) (ps : RefT (List ℕ)) (bi oi : ℕ) (γi : GName) (ys : List ℕ) (b o : ℕ) (γ : GName) (f : Flags) where
   abbrev img : RefT (List ℕ)
   img = record { ptr = (bi, oi); name = γi; now = ys }
 
@@ -121,9 +123,11 @@ module _ {M : Type 1} (𝓤 : URA M) (H : Heap 𝓤) (A : Atoms 𝓤) (W : Given
   Said t zs = (outcomeNo (t .outcome) ≡ createCheck (now ps) ys) × (lentOf zs (t .flags) ≡ creation (now ps) (lentOf ys f))
 
   exits : (t : Created) (zs : List ℕ) → Said t zs → length zs ≡ length ys → Is P.the-row (t .outcome) (ov (t .outcome) ∷ [])
-      → ent 𝓤 (⋆ 𝓤 H A (‵ (fobs γ (F.the-row .coded .code (t .flags))) ∷ ‵ (fbor κ′ (Body (mem F.the-row) b o γ)) ∷ ‵ (flft κ′ q′) ∷ (‵ (flft κ₀ q₀) ⊛ ‵ (flft κ q) ⊛ ‵ ftrue) ∷ ‵ (finally u8 γi zs) ∷ ‵ Plan ∷ [])) (Post (ov (t .outcome)))
+      → ent 𝓤 (⋆ 𝓤 H A (‵ (fobs γ (F.the-row .coded .code (t .flags))) ∷ ‵ (fbor κ′ (Body (mem F.the-row) b o γ))
+      ∷ ‵ (flft κ′ q′) ∷ (‵ (flft κ₀ q₀) ⊛ ‵ (flft κ q) ⊛ ‵ ftrue) ∷ ‵ (finally u8 γi zs) ∷ ‵ Plan ∷ [])) (Post (ov (t .outcome)))
   exits t zs e l is =
-      qed W (‵ (fobs γ (F.the-row .coded .code (t .flags))) ∷ ‵ (fbor κ′ (Body (mem F.the-row) b o γ)) ∷ ‵ (flft κ′ q′) ∷ (‵ (flft κ₀ q₀) ⊛ ‵ (flft κ q) ⊛ ‵ ftrue) ∷ ‵ (finally u8 γi zs) ∷ ‵ Plan ∷ []) ∵
+      qed W (‵ (fobs γ (F.the-row .coded .code (t .flags))) ∷ ‵ (fbor κ′ (Body (mem F.the-row) b o γ))
+      ∷ ‵ (flft κ′ q′) ∷ (‵ (flft κ₀ q₀) ⊛ ‵ (flft κ q) ⊛ ‵ ftrue) ∷ ‵ (finally u8 γi zs) ∷ ‵ Plan ∷ []) ∵
       suffices ! _ (ends-at 𝓤 H A fun.ended stayed (fun.clauses 𝓤 H A at-mem run) W (((κ₀, (κ, (κ′, tt))), (q₀, (q, (q′, tt))), tt, x, at), tt) (ov (t .outcome)) (t .outcome) (tt, (zs, (t .flags, tt))) (tt, (l, (tt, tt)))) $
       says ! e $
       -- the tokens
@@ -134,9 +138,11 @@ module _ {M : Type 1} (𝓤 : URA M) (H : Heap 𝓤) (A : Atoms 𝓤) (W : Given
       owned ! P.the-row (Is P.the-row) (EL.makes P.the-type P′.the-plain 𝓤 H A) (t .outcome) _ is $ move ! (1 ∷ 0 ∷ []) $ frame ! $ done !
 
   module _ (C : Calls 𝓤 H) (Λ : Loops 𝓤 H) (fm : FmC 𝓤 H (W .laws) C) (known : Triple 𝓤 (C #create·create) (Core 𝓤 H A at-mem run)) where
-    walk : Is (ShrSlice (named 0) κ₀ u8) ps (slice-vals ps) → Room u8 (length ys) → ent 𝓤 (onEntry 𝓤 H A fun.signature (κ₀, (κ, (κ′, tt))) (q₀, (q, (q′, tt))) x at) (WpFn 𝓤 H C Λ code.function (sliceVal (ps .ptr) (length (ps .now)) ∷ s ∷ vptr b o ∷ []) Post)
+    walk : Is (ShrSlice (named 0) κ₀ u8) ps (slice-vals ps) → Room u8 (length ys)
+        → ent 𝓤 (onEntry 𝓤 H A fun.signature (κ₀, (κ, (κ′, tt))) (q₀, (q, (q′, tt))) x at) (WpFn 𝓤 H C Λ code.function (sliceVal (ps .ptr) (length (ps .now)) ∷ s ∷ vptr b o ∷ []) Post)
     walk pp room =
-        qed W ((‵ (flft κ₀ q₀) ⊛ ‵ (flft κ q) ⊛ ‵ (flft κ′ q′) ⊛ ‵ ftrue) ∷ ‵ (owns (ShrSlice (named 0) κ₀ u8 ∷ MutSlice (named 1) κ u8 ∷ MutRef (named 2) κ′ F.the-row ∷ []) x at) ∷ []) ∵ enter ! C Λ code.function (sliceVal (ps .ptr) (length (ps .now)) ∷ s ∷ vptr b o ∷ []) _ $
+        qed W ((‵ (flft κ₀ q₀) ⊛ ‵ (flft κ q) ⊛ ‵ (flft κ′ q′) ⊛ ‵ ftrue) ∷ ‵ (owns (ShrSlice (named 0) κ₀ u8 ∷ MutSlice (named 1) κ u8 ∷ MutRef (named 2) κ′ F.the-row ∷ []) x at) ∷ []) ∵
+        enter ! C Λ code.function (sliceVal (ps .ptr) (length (ps .now)) ∷ s ∷ vptr b o ∷ []) _ $
         alloc1 ! (λ l0. alloc1 ! (λ l1. alloc1 ! (λ l2. alloc1 ! (λ l3. alloc1 ! (λ l4. alloc1 ! (λ l5. alloc1 ! (λ l6. alloc1 ! (λ l7. alloc0 ! $ params1 ! $
         pass1 ! (init ! 12 refl (shr-slice-lawful 𝓤 H A W (named 0) κ₀ u8 .typed ps _ pp .0)) $ pass1 ! (init ! 10 refl (tt, (tt, (record { fits = room .0 }, tt)))) $ pass1 ! (init ! 8 refl (tt, tt)) $ pass0 ! $
         -- the borrow of the flags is opened
@@ -147,12 +153,14 @@ module _ {M : Type 1} (𝓤 : URA M) (H : Heap 𝓤) (A : Atoms 𝓤) (W : Given
         -- [the cell; what the flags own; the open borrow; obs; auth; true 5; the image's token 6; the plan's 7; true; the image 9; the plan 10; _7 11; …; _6 13; _5 15; _4 17; _3 19; _2 21; _1 23; room for _0 25; …]
         assigns ! (of-opd ! (load ! (from ! (hop ! (look ! 19 refl) (stop !))) (look ! 0 refl))) (from ! (stop !)) (init ! 17 refl (LL.lawful F.the-type F′.the-laws 𝓤 H A W .typed f _ was .0)) $
         assigns ! (addr ! (from ! (fld ! refl (hop ! (look-in ! 21 (sub ! 0 refl (whole !))) (stop !))))) (from ! (stop !)) (init ! 13 refl (tt, tt)) $
-        assigns ! (agg ! (and-then ! (load ! (from ! (stop !)) (look ! 13 refl)) (and-then ! (load ! (from ! (fld ! refl (stop !))) (look-in ! 21 (sub ! 1 refl (whole !)))) (no-more !)))) (from ! (stop !)) (init ! 11 refl (tt, (tt, (record { fits = room .0 }, tt)))) $
+        assigns ! (agg ! (and-then ! (load ! (from ! (stop !)) (look ! 13 refl)) (and-then ! (load ! (from ! (fld ! refl (stop !))) (look-in ! 21 (sub ! 1 refl (whole !)))) (no-more !))))
+        (from ! (stop !)) (init ! 11 refl (tt, (tt, (record { fits = room .0 }, tt)))) $
         -- the call: the image goes for good
         move ! (6 ∷ 5 ∷ []) $ join ! $ move ! (6 ∷ 0 ∷ []) $ join ! $ move ! (0 ∷ 7 ∷ 8 ∷ []) $ use3 W (raw (Core 𝓤 H A at-mem run .pre to) ⊛ ‵ Plan) (goes was) $ split ! $
         -- [the callee's pre; the plan 1; the cell 2; what the flags own; the open borrow; obs; auth; true; _7 8; …]
         calls-at ! fm (Core 𝓤 H A at-mem run) known to (and-then ! (load ! (from ! (stop !)) (look ! 20 refl)) (and-then ! (load ! (from ! (stop !)) (look ! 8 refl)) (and-then ! (load ! (from ! (stop !)) (look ! 14 refl)) (no-more !)))) (λ u.
-        use1 W (later (some (λ (t : Created). ((‵ (flft κ₀ q₀) ⊛ ‵ (flft κ q) ⊛ ‵ ftrue) ⊛ ‵ (G.the-row .own t (u ∷ []))) ⊛ raw (ensured 𝓤 H A core.ended (core.clauses 𝓤 H A at-mem run) (κ₀, (κ, tt)) args tt t)))) (id⊢ 𝓤 _) $ await ! tt $ pick ! (λ t.
+        use1 W (later (some (λ (t : Created). ((‵ (flft κ₀ q₀) ⊛ ‵ (flft κ q) ⊛ ‵ ftrue) ⊛ ‵ (G.the-row .own t (u ∷ [])))
+        ⊛ raw (ensured 𝓤 H A core.ended (core.clauses 𝓤 H A at-mem run) (κ₀, (κ, tt)) args tt t)))) (id⊢ 𝓤 _) $ await ! tt $ pick ! (λ t.
         split ! $ move ! (1 ∷ []) $ use1 W (some (λ (zs : Unit {0} × (List ℕ × (Unit {0} × Unit {0}))). ‵ (lasts core.ended (κ₀, (κ, tt)) args zs) ⊛ raw (fact 𝓤 (Said t (zs .1 .0))))) (id⊢ 𝓤 _) $ pick ! (λ zs.
         split ! $ move ! (1 ∷ []) $ heard ! (Said t (zs .1 .0)) (λ e. fsplit ! $ move ! (1 ∷ []) $ fsplit ! $ fsplit ! $ move ! (1 ∷ []) $ feqL ! (λ l.
         move ! (3 ∷ []) $ split ! $ move ! (1 ∷ []) $
@@ -172,14 +180,16 @@ module _ {M : Type 1} (𝓤 : URA M) (H : Heap 𝓤) (A : Atoms 𝓤) (W : Given
         move ! (0 ∷ 1 ∷ 7 ∷ 8 ∷ 9 ∷ []) $ closes ! tt F.the-row (t .flags) (fv (t .flags) ∷ []) b o $
         -- [obs; the borrow; its token; the tokens; the last list; …; …; the plan 7; true; _7 9; …; _0 23; …]
         returns ! (look ! 23 refl) $ forget ! 9 refl $ forget ! 11 refl $ forget ! 13 refl $ forget ! 15 refl $ forget ! 17 refl $ forget ! 19 refl $ forget ! 21 refl $ forget ! 23 refl $
-        move ! (23 ∷ 24 ∷ []) $ free1 ! $ move ! (21 ∷ 22 ∷ []) $ free1 ! $ move ! (19 ∷ 20 ∷ []) $ free1 ! $ move ! (17 ∷ 18 ∷ []) $ free1 ! $ move ! (15 ∷ 16 ∷ []) $ free1 ! $ move ! (13 ∷ 14 ∷ []) $ free1 ! $ move ! (11 ∷ 12 ∷ []) $ free1 ! $ move ! (9 ∷ 10 ∷ []) $ free1 ! $ free0 ! $
+        move ! (23 ∷ 24 ∷ []) $ free1 ! $ move ! (21 ∷ 22 ∷ []) $ free1 ! $ move ! (19 ∷ 20 ∷ []) $ free1 ! $ move ! (17 ∷ 18 ∷ []) $ free1 ! $
+        move ! (15 ∷ 16 ∷ []) $ free1 ! $ move ! (13 ∷ 14 ∷ []) $ free1 ! $ move ! (11 ∷ 12 ∷ []) $ free1 ! $ move ! (9 ∷ 10 ∷ []) $ free1 ! $ free0 ! $
         keep ! (0 ∷ 1 ∷ 2 ∷ 3 ∷ 4 ∷ 7 ∷ []) $ by ! (exits t (zs .1 .0) e l ia)))))))))))))))))
 
 module _ {M : Type 1} (𝓤 : URA M) (H : Heap 𝓤) (A : Atoms 𝓤) (W : Given 𝓤 H A) (mem : Memory → SProp 𝓤) (run : Routine → Fun 𝓤) where
   walks : (C : Calls 𝓤 H) (Λ : Loops 𝓤 H) → FmC 𝓤 H (W .laws) C → Triple 𝓤 (C #create·create) (Core 𝓤 H A mem run) → Walks 𝓤 H A fun.ended stayed (WpFn 𝓤 H C Λ code.function) (fun.clauses 𝓤 H A mem run)
   walks C Λ fm known = walked 𝓤 H A fun.ended stayed (fun.clauses 𝓤 H A mem run) (WpFn 𝓤 H C Λ code.function)
       (λ κs. (slice-vals, (slice-vals, (ptr-vals, tt)))) (λ κs. (shr-slice-tells (named 0) (κs .0) u8, (mut-slice-tells (named 1) (κs .1 .0) u8, (mut-tells (named 2) (κs .1 .1 .0) F.the-row, tt))))
-      (λ κs qs bounds a _ are. via 𝓤 _ (fst∗ 𝓤 _ (emp 𝓤)) (walk 𝓤 H A W mem run (κs .0) (κs .1 .0) (κs .1 .1 .0) (qs .0) (qs .1 .0) (qs .1 .1 .0) (a .0) (a .1 .0 .ptr .0) (a .1 .0 .ptr .1) (a .1 .0 .name) (a .1 .0 .now) (a .1 .1 .0 .ptr .0) (a .1 .1 .0 .ptr .1) (a .1 .1 .0 .name) (a .1 .1 .0 .now) C Λ fm known (are .0) (are .1 .0 .0 .1)))
+      (λ κs qs bounds a _ are. via 𝓤 _ (fst∗ 𝓤 _ (emp 𝓤)) (walk 𝓤 H A W mem run (κs .0) (κs .1 .0) (κs .1 .1 .0) (qs .0) (qs .1 .0) (qs .1 .1 .0) (a .0) (a .1 .0 .ptr .0)
+      (a .1 .0 .ptr .1) (a .1 .0 .name) (a .1 .0 .now) (a .1 .1 .0 .ptr .0) (a .1 .1 .0 .ptr .1) (a .1 .1 .0 .name) (a .1 .1 .0 .now) C Λ fm known (are .0) (are .1 .0 .0 .1)))
 
 meets : {M : Type 1} (𝓤 : URA M) (H : Heap 𝓤) (A : Atoms 𝓤) → Given 𝓤 H A → (mem : Memory → SProp 𝓤) (run : Routine → Fun 𝓤) (𝓣 : Tables 𝓤 H) → Triple 𝓤 (𝓣 .C #create·create) (Core 𝓤 H A mem run)
     → Meets 𝓤 H A fun.signature (WpFn 𝓤 H (𝓣 .C) (𝓣 .Λ) code.function) (fun.spec 𝓤 H A mem run)

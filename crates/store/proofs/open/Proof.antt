@@ -1,4 +1,5 @@
--- `store::open` meets its contract: a walk of its MIR, by hand. The borrow of the flags is opened, the flags are copied out, a copy of the image's slice goes on to `open::open`, the flags that it answers are stored whole, and the borrow is closed at them.
+-- `store::open` meets its contract: a walk of its MIR, by hand. The borrow of the flags is opened, the flags are copied out, a copy of the image's slice goes
+-- on to `open::open`, the flags that it answers are stored whole, and the borrow is closed at them.
 -- Assumes nothing.
 use mathlib.Core.Path.{_≡_, refl, ap}
 use Prim.Native.Nat.{ℕ}
@@ -73,7 +74,8 @@ stayed = (stay-none-slice (0 ∷ []) tt (plain (λ _. u8)) yes, (stay-ref (1 ∷
 abbrev Core : {M : Type 1} (𝓤 : URA M) (H : Heap 𝓤) (A : Atoms 𝓤) (mem : Memory → SProp 𝓤) (run : Routine → Fun 𝓤) → Contract 𝓤
 Core 𝓤 H A mem run = tripleOf 𝓤 H A core.signature (core.spec 𝓤 H A mem run)
 
-module _ {M : Type 1} (𝓤 : URA M) (H : Heap 𝓤) (A : Atoms 𝓤) (W : Given 𝓤 H A) (at-mem : Memory → SProp 𝓤) (run : Routine → Fun 𝓤) (κ κ′ : Lft) (q q′ : Share) (s : RefT (List ℕ)) (b o : ℕ) (γ : GName) (f : Flags) where
+module _ {M : Type 1} (𝓤 : URA M) (H : Heap 𝓤) (A : Atoms 𝓤) (W : Given 𝓤 H A) (at-mem : Memory → SProp 𝓤)
+    (run : Routine → Fun 𝓤) (κ κ′ : Lft) (q q′ : Share) (s : RefT (List ℕ)) (b o : ℕ) (γ : GName) (f : Flags) where
   abbrev x : RefT (List ℕ) × (RefT Flags × Unit {0})
   x = (s, (record { ptr = (b, o); name = γ; now = f }, tt))
 
@@ -128,7 +130,8 @@ module _ {M : Type 1} (𝓤 : URA M) (H : Heap 𝓤) (A : Atoms 𝓤) (W : Given
   module _ (C : Calls 𝓤 H) (Λ : Loops 𝓤 H) (fm : FmC 𝓤 H (W .laws) C) (known : Triple 𝓤 (C #open·open) (Core 𝓤 H A at-mem run)) where
     walk : Is (ShrSlice (named 0) κ u8) s (slice-vals s) → ent 𝓤 (onEntry 𝓤 H A fun.signature (κ, (κ′, tt)) (q, (q′, tt)) x at) (WpFn 𝓤 H C Λ code.function (sliceVal (s .ptr) (length (s .now)) ∷ vptr b o ∷ []) Post)
     walk ps =
-        qed W ((‵ (flft κ q) ⊛ ‵ (flft κ′ q′) ⊛ ‵ ftrue) ∷ ‵ (owns (ShrSlice (named 0) κ u8 ∷ MutRef (named 1) κ′ F.the-row ∷ []) x at) ∷ []) ∵ enter ! C Λ code.function (sliceVal (s .ptr) (length (s .now)) ∷ vptr b o ∷ []) _ $
+        qed W ((‵ (flft κ q) ⊛ ‵ (flft κ′ q′) ⊛ ‵ ftrue) ∷ ‵ (owns (ShrSlice (named 0) κ u8 ∷ MutRef (named 1) κ′ F.the-row ∷ []) x at) ∷ []) ∵
+        enter ! C Λ code.function (sliceVal (s .ptr) (length (s .now)) ∷ vptr b o ∷ []) _ $
         alloc1 ! (λ l0. alloc1 ! (λ l1. alloc1 ! (λ l2. alloc1 ! (λ l3. alloc1 ! (λ l4. alloc0 ! $ params1 ! $
         pass1 ! (init ! 6 refl (shr-slice-lawful 𝓤 H A W (named 0) κ u8 .typed s _ ps .0)) $ pass1 ! (init ! 4 refl (tt, tt)) $ pass0 ! $
         -- the borrow of the flags is opened
@@ -142,7 +145,8 @@ module _ {M : Type 1} (𝓤 : URA M) (H : Heap 𝓤) (A : Atoms 𝓤) (W : Given
         move ! (6 ∷ 8 ∷ []) $ use2 W (raw (Core 𝓤 H A at-mem run .pre to) ⊛ ‵ Image) (goes was) $ split ! $
         -- [the callee's pre; the image 1; the cell 2; what the flags own; the open borrow; obs; auth; true; true; _4 9; …]
         calls-at ! fm (Core 𝓤 H A at-mem run) known to (and-then ! (load ! (from ! (stop !)) (look ! 15 refl)) (and-then ! (load ! (from ! (stop !)) (look ! 11 refl)) (no-more !))) (λ u.
-        use1 W (later (some (λ (t : Opened). ((‵ (flft κ q) ⊛ ‵ ftrue) ⊛ ‵ (G.the-row .own t (u ∷ []))) ⊛ raw (ensured 𝓤 H A core.ended (core.clauses 𝓤 H A at-mem run) (κ, tt) args tt t)))) (id⊢ 𝓤 _) $ await ! tt $ pick ! (λ t.
+        use1 W (later (some (λ (t : Opened). ((‵ (flft κ q) ⊛ ‵ ftrue) ⊛ ‵ (G.the-row .own t (u ∷ [])))
+        ⊛ raw (ensured 𝓤 H A core.ended (core.clauses 𝓤 H A at-mem run) (κ, tt) args tt t)))) (id⊢ 𝓤 _) $ await ! tt $ pick ! (λ t.
         split ! $ move ! (1 ∷ []) $ use1 W (raw (fact 𝓤 (Said t))) (said t) $ heard ! (Said t) (λ e. split ! $ move ! (1 ∷ []) $
         -- [the result; the token; the image 2; the cell 3; what the flags own 4; the open borrow; obs; auth; true; true; _4 10; …]
         peeks ! G.the-row (Is G.the-row) (shows 𝓤 H A G.the-row) t (u ∷ []) (λ is.

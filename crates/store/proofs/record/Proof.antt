@@ -1,4 +1,5 @@
--- `store::record` meets its contract: a walk of its MIR, by hand. The borrow of the flags is opened, the flags are copied out, the image goes on to `record::record` for good, the flags that it answers are stored whole, and the borrow is closed at them.
+-- `store::record` meets its contract: a walk of its MIR, by hand. The borrow of the flags is opened, the flags are copied out, the image goes on to
+-- `record::record` for good, the flags that it answers are stored whole, and the borrow is closed at them.
 -- Assumes nothing.
 use mathlib.Core.Path.{_≡_, refl, ap}
 use Prim.Native.Nat.{ℕ, _<_, _^_}
@@ -82,7 +83,8 @@ Core 𝓤 H A mem run = tripleOf 𝓤 H A core.signature (core.spec 𝓤 H A mem
 abbrev nv : SeriesHandle → Val
 nv h = LL.val N.the-type N′.the-laws h
 
-module _ {M : Type 1} (𝓤 : URA M) (H : Heap 𝓤) (A : Atoms 𝓤) (W : Given 𝓤 H A) (at-mem : Memory → SProp 𝓤) (run : Routine → Fun 𝓤) (κ κ′ : Lft) (q q′ : Share) (bi oi : ℕ) (γi : GName) (ys : List ℕ) (b o : ℕ) (γ : GName) (f : Flags) (h : SeriesHandle) (v n : ℕ) where
+module _ {M : Type 1} (𝓤 : URA M) (H : Heap 𝓤) (A : Atoms 𝓤) (W : Given 𝓤 H A) (at-mem : Memory → SProp 𝓤) (run : Routine → Fun 𝓤)
+    (κ κ′ : Lft) (q q′ : Share) (bi oi : ℕ) (γi : GName) (ys : List ℕ) (b o : ℕ) (γ : GName) (f : Flags) (h : SeriesHandle) (v n : ℕ) where
   abbrev img : RefT (List ℕ)
   img = record { ptr = (bi, oi); name = γi; now = ys }
 
@@ -127,7 +129,8 @@ module _ {M : Type 1} (𝓤 : URA M) (H : Heap 𝓤) (A : Atoms 𝓤) (W : Given
   Said t zs = RecordDone (lentOf ys f) (h .schema) (h .column) v n (outcomeNo (t .outcome)) (lentOf zs (t .flags))
 
   exits : Fit → (t : Recorded) (zs : List ℕ) → Said t zs → length zs ≡ length ys → Is P.the-row (t .outcome) (ov (t .outcome) ∷ [])
-      → ent 𝓤 (⋆ 𝓤 H A (‵ (fobs γ (F.the-row .coded .code (t .flags))) ∷ ‵ (fbor κ′ (Body (mem F.the-row) b o γ)) ∷ ‵ (flft κ′ q′) ∷ (‵ (flft κ q) ⊛ ‵ ftrue) ∷ ‵ (finally u8 γi zs) ∷ [])) (Post (ov (t .outcome)))
+      → ent 𝓤 (⋆ 𝓤 H A (‵ (fobs γ (F.the-row .coded .code (t .flags))) ∷ ‵ (fbor κ′ (Body (mem F.the-row) b o γ))
+      ∷ ‵ (flft κ′ q′) ∷ (‵ (flft κ q) ⊛ ‵ ftrue) ∷ ‵ (finally u8 γi zs) ∷ [])) (Post (ov (t .outcome)))
   exits fit t zs e l is =
       qed W (‵ (fobs γ (F.the-row .coded .code (t .flags))) ∷ ‵ (fbor κ′ (Body (mem F.the-row) b o γ)) ∷ ‵ (flft κ′ q′) ∷ (‵ (flft κ q) ⊛ ‵ ftrue) ∷ ‵ (finally u8 γi zs) ∷ []) ∵
       suffices ! _ (ends-at 𝓤 H A fun.ended stayed (fun.clauses 𝓤 H A at-mem run) W (((κ, (κ′, tt)), (q, (q′, tt)), tt, x, at), tt) (ov (t .outcome)) (t .outcome) (zs, (t .flags, (tt, (tt, (tt, tt))))) (l, (tt, (tt, (tt, (tt, tt)))))) $
@@ -143,10 +146,12 @@ module _ {M : Type 1} (𝓤 : URA M) (H : Heap 𝓤) (A : Atoms 𝓤) (W : Given
   module _ (C : Calls 𝓤 H) (Λ : Loops 𝓤 H) (fm : FmC 𝓤 H (W .laws) C) (known : Triple 𝓤 (C #record·record) (Core 𝓤 H A at-mem run)) where
     walk : Room u8 (length ys) → Fit → ent 𝓤 (onEntry 𝓤 H A fun.signature (κ, (κ′, tt)) (q, (q′, tt)) x at) (WpFn 𝓤 H C Λ code.function (s ∷ vptr b o ∷ nv h ∷ vint w64 v ∷ vint w64 n ∷ []) Post)
     walk room fit =
-        qed W ((‵ (flft κ q) ⊛ ‵ (flft κ′ q′) ⊛ ‵ ftrue) ∷ ‵ (owns (MutSlice (named 0) κ u8 ∷ MutRef (named 1) κ′ F.the-row ∷ N.the-row ∷ u64 ∷ u64 ∷ []) x at) ∷ []) ∵ enter ! C Λ code.function (s ∷ vptr b o ∷ nv h ∷ vint w64 v ∷ vint w64 n ∷ []) _ $
+        qed W ((‵ (flft κ q) ⊛ ‵ (flft κ′ q′) ⊛ ‵ ftrue) ∷ ‵ (owns (MutSlice (named 0) κ u8 ∷ MutRef (named 1) κ′ F.the-row ∷ N.the-row ∷ u64 ∷ u64 ∷ []) x at) ∷ []) ∵
+        enter ! C Λ code.function (s ∷ vptr b o ∷ nv h ∷ vint w64 v ∷ vint w64 n ∷ []) _ $
         let wn : Holds (hasTy N′.mir (nv h)) × WT (nv h) = LL.lawful N.the-type N′.the-laws 𝓤 H A W .typed h _ (fit .0) .0 in
         alloc1 ! (λ l0. alloc1 ! (λ l1. alloc1 ! (λ l2. alloc1 ! (λ l3. alloc1 ! (λ l4. alloc1 ! (λ l5. alloc1 ! (λ l6. alloc1 ! (λ l7. alloc1 ! (λ l8. alloc1 ! (λ l9. alloc0 ! $ params1 ! $
-        pass1 ! (init ! 16 refl (tt, (tt, (record { fits = room .0 }, tt)))) $ pass1 ! (init ! 14 refl (tt, tt)) $ pass1 ! (init ! 12 refl wn) $ pass1 ! (init ! 10 refl (tt, record { fits = fit .1 .0 })) $ pass1 ! (init ! 8 refl (tt, record { fits = fit .1 .1 })) $ pass0 ! $
+        pass1 ! (init ! 16 refl (tt, (tt, (record { fits = room .0 }, tt)))) $ pass1 ! (init ! 14 refl (tt, tt)) $ pass1 ! (init ! 12 refl wn) $
+        pass1 ! (init ! 10 refl (tt, record { fits = fit .1 .0 })) $ pass1 ! (init ! 8 refl (tt, record { fits = fit .1 .1 })) $ pass0 ! $
         -- the borrow of the flags is opened
         move ! (21 ∷ []) $ fsplit ! $ move ! (1 ∷ []) $ fsplit ! $ fsplit3 ! $ drop ! $ move ! (24 ∷ []) $ split ! $ move ! (1 ∷ []) $ split ! $ move ! (3 ∷ 4 ∷ 0 ∷ []) $
         opens ! tt F.the-row {h = f} b o (λ vs. spelt ! F.the-row (Is F.the-row) (shows 𝓤 H A F.the-row) (LL.vals F.the-type F′.the-laws) (LL.tells F.the-type F′.the-laws) fullShare f vs b o $
@@ -155,11 +160,15 @@ module _ {M : Type 1} (𝓤 : URA M) (H : Heap 𝓤) (A : Atoms 𝓤) (W : Given
         -- [the cell; what the flags own; the open borrow; obs; auth; true; the image's token 6; what the others own; what the image owns 8; _9 9; …; _8 11; _7 13; _6 15; _5 17; _4 19; _3 21; _2 23; _1 25; room for _0 27; …]
         assigns ! (of-opd ! (load ! (from ! (hop ! (look ! 23 refl) (stop !))) (look ! 0 refl))) (from ! (stop !)) (init ! 15 refl (LL.lawful F.the-type F′.the-laws 𝓤 H A W .typed f _ was .0)) $
         assigns ! (addr ! (from ! (fld ! refl (hop ! (look-in ! 25 (sub ! 0 refl (whole !))) (stop !))))) (from ! (stop !)) (init ! 11 refl (tt, tt)) $
-        assigns ! (agg ! (and-then ! (load ! (from ! (stop !)) (look ! 11 refl)) (and-then ! (load ! (from ! (fld ! refl (stop !))) (look-in ! 25 (sub ! 1 refl (whole !)))) (no-more !)))) (from ! (stop !)) (init ! 9 refl (tt, (tt, (record { fits = room .0 }, tt)))) $
+        assigns ! (agg ! (and-then ! (load ! (from ! (stop !)) (look ! 11 refl)) (and-then ! (load ! (from ! (fld ! refl (stop !))) (look-in ! 25 (sub ! 1 refl (whole !)))) (no-more !))))
+        (from ! (stop !)) (init ! 9 refl (tt, (tt, (record { fits = room .0 }, tt)))) $
         -- the call: the image goes for good
         move ! (6 ∷ 8 ∷ []) $ use2 W (raw (Core 𝓤 H A at-mem run .pre to)) (goes fit was) $
-        calls-at ! fm (Core 𝓤 H A at-mem run) known to (and-then ! (load ! (from ! (stop !)) (look ! 8 refl)) (and-then ! (load ! (from ! (stop !)) (look ! 14 refl)) (and-then ! (load ! (from ! (stop !)) (look ! 20 refl)) (and-then ! (load ! (from ! (stop !)) (look ! 18 refl)) (and-then ! (load ! (from ! (stop !)) (look ! 16 refl)) (no-more !)))))) (λ u.
-        use1 W (later (some (λ (t : Recorded). ((‵ (flft κ q) ⊛ ‵ ftrue) ⊛ ‵ (G.the-row .own t (u ∷ []))) ⊛ raw (ensured 𝓤 H A core.ended (core.clauses 𝓤 H A at-mem run) (κ, tt) args tt t)))) (id⊢ 𝓤 _) $ await ! tt $ pick ! (λ t.
+        calls-at ! fm (Core 𝓤 H A at-mem run) known to (and-then ! (load ! (from ! (stop !)) (look ! 8 refl))
+        (and-then ! (load ! (from ! (stop !)) (look ! 14 refl)) (and-then ! (load ! (from ! (stop !)) (look ! 20 refl))
+        (and-then ! (load ! (from ! (stop !)) (look ! 18 refl)) (and-then ! (load ! (from ! (stop !)) (look ! 16 refl)) (no-more !)))))) (λ u.
+        use1 W (later (some (λ (t : Recorded). ((‵ (flft κ q) ⊛ ‵ ftrue) ⊛ ‵ (G.the-row .own t (u ∷ [])))
+        ⊛ raw (ensured 𝓤 H A core.ended (core.clauses 𝓤 H A at-mem run) (κ, tt) args tt t)))) (id⊢ 𝓤 _) $ await ! tt $ pick ! (λ t.
         split ! $ move ! (1 ∷ []) $ use1 W (some (λ (zs : List ℕ × (Unit {0} × (Unit {0} × (Unit {0} × (Unit {0} × Unit {0}))))). ‵ (lasts core.ended (κ, tt) args zs) ⊛ raw (fact 𝓤 (Said t (zs .0))))) (id⊢ 𝓤 _) $ pick ! (λ zs.
         split ! $ move ! (1 ∷ []) $ heard ! (Said t (zs .0)) (λ e. fsplit ! $ fsplit ! $ move ! (1 ∷ []) $ feqL ! (λ l.
         move ! (2 ∷ []) $ split ! $ move ! (1 ∷ []) $
@@ -179,19 +188,25 @@ module _ {M : Type 1} (𝓤 : URA M) (H : Heap 𝓤) (A : Atoms 𝓤) (W : Given
         move ! (0 ∷ 1 ∷ 5 ∷ 6 ∷ 7 ∷ []) $ closes ! tt F.the-row (t .flags) (fv (t .flags) ∷ []) b o $
         -- [obs; the borrow; its token; the image's token; the last list; …; …; what the others own; _9 8; …; _0 26; …]
         returns ! (look ! 26 refl) $ forget ! 8 refl $ forget ! 10 refl $ forget ! 12 refl $ forget ! 14 refl $ forget ! 16 refl $ forget ! 18 refl $ forget ! 20 refl $ forget ! 22 refl $ forget ! 24 refl $ forget ! 26 refl $
-        move ! (26 ∷ 27 ∷ []) $ free1 ! $ move ! (24 ∷ 25 ∷ []) $ free1 ! $ move ! (22 ∷ 23 ∷ []) $ free1 ! $ move ! (20 ∷ 21 ∷ []) $ free1 ! $ move ! (18 ∷ 19 ∷ []) $ free1 ! $ move ! (16 ∷ 17 ∷ []) $ free1 ! $ move ! (14 ∷ 15 ∷ []) $ free1 ! $ move ! (12 ∷ 13 ∷ []) $ free1 ! $ move ! (10 ∷ 11 ∷ []) $ free1 ! $ move ! (8 ∷ 9 ∷ []) $ free1 ! $ free0 ! $
+        move ! (26 ∷ 27 ∷ []) $ free1 ! $ move ! (24 ∷ 25 ∷ []) $ free1 ! $ move ! (22 ∷ 23 ∷ []) $ free1 ! $ move ! (20 ∷ 21 ∷ []) $ free1 ! $ move ! (18 ∷ 19 ∷ []) $ free1 ! $
+        move ! (16 ∷ 17 ∷ []) $ free1 ! $ move ! (14 ∷ 15 ∷ []) $ free1 ! $ move ! (12 ∷ 13 ∷ []) $ free1 ! $ move ! (10 ∷ 11 ∷ []) $ free1 ! $ move ! (8 ∷ 9 ∷ []) $ free1 ! $ free0 ! $
         keep ! (0 ∷ 1 ∷ 2 ∷ 3 ∷ 4 ∷ []) $ by ! (exits fit t (zs .0) e l ia)))))))))))))))))))
 
 module _ {M : Type 1} (𝓤 : URA M) (H : Heap 𝓤) (A : Atoms 𝓤) (W : Given 𝓤 H A) (mem : Memory → SProp 𝓤) (run : Routine → Fun 𝓤) where
   walks : (C : Calls 𝓤 H) (Λ : Loops 𝓤 H) → FmC 𝓤 H (W .laws) C → Triple 𝓤 (C #record·record) (Core 𝓤 H A mem run) → Walks 𝓤 H A fun.ended stayed (WpFn 𝓤 H C Λ code.function) (fun.clauses 𝓤 H A mem run)
   walks C Λ fm known = walked 𝓤 H A fun.ended stayed (fun.clauses 𝓤 H A mem run) (WpFn 𝓤 H C Λ code.function)
-      (λ κs. (slice-vals, (ptr-vals, (LL.vals N.the-type N′.the-laws, (uint-vals w64, (uint-vals w64, tt)))))) (λ κs. (mut-slice-tells (named 0) (κs .0) u8, (mut-tells (named 1) (κs .1 .0) F.the-row, (LL.tells N.the-type N′.the-laws, (uint-tells w64, (uint-tells w64, tt))))))
-      (λ κs qs bounds a _ are. via 𝓤 _ (fst∗ 𝓤 _ (emp 𝓤)) (walk 𝓤 H A W mem run (κs .0) (κs .1 .0) (qs .0) (qs .1 .0) (a .0 .ptr .0) (a .0 .ptr .1) (a .0 .name) (a .0 .now) (a .1 .0 .ptr .0) (a .1 .0 .ptr .1) (a .1 .0 .name) (a .1 .0 .now) (a .1 .1 .0) (a .1 .1 .1 .0) (a .1 .1 .1 .1 .0) C Λ fm known (are .0 .0 .1) (are .1 .1 .0, (are .1 .1 .1 .0 .1, are .1 .1 .1 .1 .0 .1))))
+      (λ κs. (slice-vals, (ptr-vals, (LL.vals N.the-type N′.the-laws, (uint-vals w64, (uint-vals w64, tt))))))
+      (λ κs. (mut-slice-tells (named 0) (κs .0) u8, (mut-tells (named 1) (κs .1 .0) F.the-row, (LL.tells N.the-type N′.the-laws, (uint-tells w64, (uint-tells w64, tt))))))
+      (λ κs qs bounds a _ are. via 𝓤 _ (fst∗ 𝓤 _ (emp 𝓤)) (walk 𝓤 H A W mem run (κs .0) (κs .1 .0) (qs .0) (qs .1 .0) (a .0 .ptr .0) (a .0 .ptr .1) (a .0 .name) (a .0 .now) (a .1 .0 .ptr .0)
+      (a .1 .0 .ptr .1) (a .1 .0 .name) (a .1 .0 .now) (a .1 .1 .0) (a .1 .1 .1 .0) (a .1 .1 .1 .1 .0) C Λ fm known (are .0 .0 .1) (are .1 .1 .0, (are .1 .1 .1 .0 .1, are .1 .1 .1 .1 .0 .1))))
 
 meets : {M : Type 1} (𝓤 : URA M) (H : Heap 𝓤) (A : Atoms 𝓤) → Given 𝓤 H A → (mem : Memory → SProp 𝓤) (run : Routine → Fun 𝓤) (𝓣 : Tables 𝓤 H) → Triple 𝓤 (𝓣 .C #record·record) (Core 𝓤 H A mem run)
     → Meets 𝓤 H A fun.signature (WpFn 𝓤 H (𝓣 .C) (𝓣 .Λ) code.function) (fun.spec 𝓤 H A mem run)
 meets 𝓤 H A W mem run 𝓣 known =
-    walk-meets 𝓤 H A fun.ended stayed W (goes-gave-slice 𝓤 H A W 2 0 tt (plain (λ _. u8)), (goes-ref 𝓤 H A W 2 1 tt behind, (goes-none 𝓤 H A W 2 (λ _. N.the-row) yes (λ κs x f. refl), (goes-none 𝓤 H A W 2 (λ _. u64) yes (λ κs x f. refl), (goes-none 𝓤 H A W 2 (λ _. u64) yes (λ κs x f. refl), tt))))) (fun.clauses 𝓤 H A mem run)
+    let word = goes-none 𝓤 H A W 2 (λ _. u64) yes (λ κs x f. refl) in
+    walk-meets 𝓤 H A fun.ended stayed W
+    (goes-gave-slice 𝓤 H A W 2 0 tt (plain (λ _. u8)), (goes-ref 𝓤 H A W 2 1 tt behind, (goes-none 𝓤 H A W 2 (λ _. N.the-row) yes (λ κs x f. refl), (word, (word, tt)))))
+    (fun.clauses 𝓤 H A mem run)
     (WpFn 𝓤 H (𝓣 .C) (𝓣 .Λ) code.function) (WpFn-mono 𝓤 H (W .laws) 𝓣 code.function) (walks 𝓤 H A W mem run (𝓣 .C) (𝓣 .Λ) (fmOf 𝓤 H (W .laws) 𝓣) known)
 
 pub record-spec : {M : Type 1} → stated.statement M

@@ -1,4 +1,5 @@
--- `store::record_batch` meets its contract: a walk of its MIR, by hand. The borrow of the flags is opened, the flags are copied out, the image goes on to `batch::record_batch` for good, the flags that it answers are stored whole, and the borrow is closed at them; of the batch's bytes a copy is passed.
+-- `store::record_batch` meets its contract: a walk of its MIR, by hand. The borrow of the flags is opened, the flags are copied out, the image goes on to
+-- `batch::record_batch` for good, the flags that it answers are stored whole, and the borrow is closed at them; of the batch's bytes a copy is passed.
 -- Assumes nothing.
 use mathlib.Core.Path.{_≡_, refl, ap}
 use Prim.Native.Nat.{ℕ, _<_, _^_}
@@ -75,7 +76,8 @@ stayed = (gave-slice (0 ∷ []) tt (plain (λ _. u8)), (stay-ref (1 ∷ []) tt b
 abbrev Core : {M : Type 1} (𝓤 : URA M) (H : Heap 𝓤) (A : Atoms 𝓤) (mem : Memory → SProp 𝓤) (run : Routine → Fun 𝓤) → Contract 𝓤
 Core 𝓤 H A mem run = tripleOf 𝓤 H A core.signature (core.spec 𝓤 H A mem run)
 
-module _ {M : Type 1} (𝓤 : URA M) (H : Heap 𝓤) (A : Atoms 𝓤) (W : Given 𝓤 H A) (at-mem : Memory → SProp 𝓤) (run : Routine → Fun 𝓤) (κ κ′ κ₂ : Lft) (q q′ q₂ : Share) (bi oi : ℕ) (γi : GName) (ys : List ℕ) (b o : ℕ) (γ : GName) (f : Flags) (bs : RefT (List ℕ)) (n : ℕ) where
+module _ {M : Type 1} (𝓤 : URA M) (H : Heap 𝓤) (A : Atoms 𝓤) (W : Given 𝓤 H A) (at-mem : Memory → SProp 𝓤) (run : Routine → Fun 𝓤)
+    (κ κ′ κ₂ : Lft) (q q′ q₂ : Share) (bi oi : ℕ) (γi : GName) (ys : List ℕ) (b o : ℕ) (γ : GName) (f : Flags) (bs : RefT (List ℕ)) (n : ℕ) where
   abbrev img : RefT (List ℕ)
   img = record { ptr = (bi, oi); name = γi; now = ys }
 
@@ -130,10 +132,13 @@ module _ {M : Type 1} (𝓤 : URA M) (H : Heap 𝓤) (A : Atoms 𝓤) (W : Given
   Said t zs = BatchDone (lentOf ys f) (entries (now bs)) n (outcomeNo (t .outcome)) (lentOf zs (t .flags))
 
   exits : (t : Recorded) (zs : List ℕ) → Said t zs → length zs ≡ length ys → Is P.the-row (t .outcome) (ov (t .outcome) ∷ [])
-      → ent 𝓤 (⋆ 𝓤 H A (‵ (fobs γ (F.the-row .coded .code (t .flags))) ∷ ‵ (fbor κ′ (Body (mem F.the-row) b o γ)) ∷ ‵ (flft κ′ q′) ∷ (‵ (flft κ q) ⊛ ‵ (flft κ₂ q₂) ⊛ ‵ ftrue) ∷ ‵ (finally u8 γi zs) ∷ ‵ Rest ∷ [])) (Post (ov (t .outcome)))
+      → ent 𝓤 (⋆ 𝓤 H A (‵ (fobs γ (F.the-row .coded .code (t .flags))) ∷ ‵ (fbor κ′ (Body (mem F.the-row) b o γ))
+      ∷ ‵ (flft κ′ q′) ∷ (‵ (flft κ q) ⊛ ‵ (flft κ₂ q₂) ⊛ ‵ ftrue) ∷ ‵ (finally u8 γi zs) ∷ ‵ Rest ∷ [])) (Post (ov (t .outcome)))
   exits t zs e l is =
-      qed W (‵ (fobs γ (F.the-row .coded .code (t .flags))) ∷ ‵ (fbor κ′ (Body (mem F.the-row) b o γ)) ∷ ‵ (flft κ′ q′) ∷ (‵ (flft κ q) ⊛ ‵ (flft κ₂ q₂) ⊛ ‵ ftrue) ∷ ‵ (finally u8 γi zs) ∷ ‵ Rest ∷ []) ∵
-      suffices ! _ (ends-at 𝓤 H A fun.ended stayed (fun.clauses 𝓤 H A at-mem run) W (((κ, (κ′, (κ₂, tt))), (q, (q′, (q₂, tt))), tt, x, at), tt) (ov (t .outcome)) (t .outcome) (zs, (t .flags, (tt, (tt, tt)))) (l, (tt, (tt, (tt, tt))))) $
+      qed W (‵ (fobs γ (F.the-row .coded .code (t .flags))) ∷ ‵ (fbor κ′ (Body (mem F.the-row) b o γ))
+      ∷ ‵ (flft κ′ q′) ∷ (‵ (flft κ q) ⊛ ‵ (flft κ₂ q₂) ⊛ ‵ ftrue) ∷ ‵ (finally u8 γi zs) ∷ ‵ Rest ∷ []) ∵
+      suffices ! _ (ends-at 𝓤 H A fun.ended stayed (fun.clauses 𝓤 H A at-mem run) W (((κ, (κ′, (κ₂, tt))), (q, (q′, (q₂, tt))), tt, x, at), tt)
+      (ov (t .outcome)) (t .outcome) (zs, (t .flags, (tt, (tt, tt)))) (l, (tt, (tt, (tt, tt))))) $
       says ! (batch-called (t .outcome) e) $
       -- the tokens
       move ! (3 ∷ []) $ split ! $ move ! (4 ∷ 1 ∷ []) $ join ! $ move ! (1 ∷ 0 ∷ []) $ join ! $ frame ! $
@@ -143,11 +148,14 @@ module _ {M : Type 1} (𝓤 : URA M) (H : Heap 𝓤) (A : Atoms 𝓤) (W : Given
       owned ! P.the-row (Is P.the-row) (EL.makes P.the-type P′.the-plain 𝓤 H A) (t .outcome) _ is $ move ! (1 ∷ 0 ∷ []) $ frame ! $ done !
 
   module _ (C : Calls 𝓤 H) (Λ : Loops 𝓤 H) (fm : FmC 𝓤 H (W .laws) C) (known : Triple 𝓤 (C #batch·record-batch) (Core 𝓤 H A at-mem run)) where
-    walk : Room u8 (length ys) → Is (ShrSlice (named 2) κ₂ u8) bs (slice-vals bs) → n < 2 ^ 64 → ent 𝓤 (onEntry 𝓤 H A fun.signature (κ, (κ′, (κ₂, tt))) (q, (q′, (q₂, tt))) x at) (WpFn 𝓤 H C Λ code.function (s ∷ vptr b o ∷ sliceVal (bs .ptr) (length (bs .now)) ∷ vint w64 n ∷ []) Post)
+    walk : Room u8 (length ys) → Is (ShrSlice (named 2) κ₂ u8) bs (slice-vals bs) → n < 2 ^ 64
+        → ent 𝓤 (onEntry 𝓤 H A fun.signature (κ, (κ′, (κ₂, tt))) (q, (q′, (q₂, tt))) x at) (WpFn 𝓤 H C Λ code.function (s ∷ vptr b o ∷ sliceVal (bs .ptr) (length (bs .now)) ∷ vint w64 n ∷ []) Post)
     walk room pb fn =
-        qed W ((‵ (flft κ q) ⊛ ‵ (flft κ′ q′) ⊛ ‵ (flft κ₂ q₂) ⊛ ‵ ftrue) ∷ ‵ (owns (MutSlice (named 0) κ u8 ∷ MutRef (named 1) κ′ F.the-row ∷ ShrSlice (named 2) κ₂ u8 ∷ u64 ∷ []) x at) ∷ []) ∵ enter ! C Λ code.function (s ∷ vptr b o ∷ sliceVal (bs .ptr) (length (bs .now)) ∷ vint w64 n ∷ []) _ $
+        qed W ((‵ (flft κ q) ⊛ ‵ (flft κ′ q′) ⊛ ‵ (flft κ₂ q₂) ⊛ ‵ ftrue) ∷ ‵ (owns (MutSlice (named 0) κ u8 ∷ MutRef (named 1) κ′ F.the-row ∷ ShrSlice (named 2) κ₂ u8 ∷ u64 ∷ []) x at) ∷ []) ∵
+        enter ! C Λ code.function (s ∷ vptr b o ∷ sliceVal (bs .ptr) (length (bs .now)) ∷ vint w64 n ∷ []) _ $
         alloc1 ! (λ l0. alloc1 ! (λ l1. alloc1 ! (λ l2. alloc1 ! (λ l3. alloc1 ! (λ l4. alloc1 ! (λ l5. alloc1 ! (λ l6. alloc1 ! (λ l7. alloc1 ! (λ l8. alloc0 ! $ params1 ! $
-        pass1 ! (init ! 14 refl (tt, (tt, (record { fits = room .0 }, tt)))) $ pass1 ! (init ! 12 refl (tt, tt)) $ pass1 ! (init ! 10 refl (shr-slice-lawful 𝓤 H A W (named 2) κ₂ u8 .typed bs _ pb .0)) $ pass1 ! (init ! 8 refl (tt, record { fits = fn })) $ pass0 ! $
+        pass1 ! (init ! 14 refl (tt, (tt, (record { fits = room .0 }, tt)))) $ pass1 ! (init ! 12 refl (tt, tt)) $
+        pass1 ! (init ! 10 refl (shr-slice-lawful 𝓤 H A W (named 2) κ₂ u8 .typed bs _ pb .0)) $ pass1 ! (init ! 8 refl (tt, record { fits = fn })) $ pass0 ! $
         -- the borrow of the flags is opened
         move ! (19 ∷ []) $ fsplit ! $ move ! (1 ∷ []) $ fsplit ! $ fsplit3 ! $ drop ! $ move ! (22 ∷ []) $ split ! $ move ! (1 ∷ []) $ split ! $ move ! (3 ∷ 4 ∷ 0 ∷ []) $
         opens ! tt F.the-row {h = f} b o (λ us. spelt ! F.the-row (Is F.the-row) (shows 𝓤 H A F.the-row) (LL.vals F.the-type F′.the-laws) (LL.tells F.the-type F′.the-laws) fullShare f us b o $
@@ -156,11 +164,14 @@ module _ {M : Type 1} (𝓤 : URA M) (H : Heap 𝓤) (A : Atoms 𝓤) (W : Given
         -- [the cell; what the flags own; the open borrow; obs; auth; the batch's token 5; the image's 6; what stays 7; the image 8; _8 9; …; _7 11; _6 13; _5 15; _4 17; _3 19; _2 21; _1 23; room for _0 25; …]
         assigns ! (of-opd ! (load ! (from ! (hop ! (look ! 21 refl) (stop !))) (look ! 0 refl))) (from ! (stop !)) (init ! 15 refl (LL.lawful F.the-type F′.the-laws 𝓤 H A W .typed f _ was .0)) $
         assigns ! (addr ! (from ! (fld ! refl (hop ! (look-in ! 23 (sub ! 0 refl (whole !))) (stop !))))) (from ! (stop !)) (init ! 11 refl (tt, tt)) $
-        assigns ! (agg ! (and-then ! (load ! (from ! (stop !)) (look ! 11 refl)) (and-then ! (load ! (from ! (fld ! refl (stop !))) (look-in ! 23 (sub ! 1 refl (whole !)))) (no-more !)))) (from ! (stop !)) (init ! 9 refl (tt, (tt, (record { fits = room .0 }, tt)))) $
+        assigns ! (agg ! (and-then ! (load ! (from ! (stop !)) (look ! 11 refl)) (and-then ! (load ! (from ! (fld ! refl (stop !))) (look-in ! 23 (sub ! 1 refl (whole !)))) (no-more !))))
+        (from ! (stop !)) (init ! 9 refl (tt, (tt, (record { fits = room .0 }, tt)))) $
         -- the call: the image goes for good
         move ! (6 ∷ 5 ∷ []) $ join ! $ move ! (0 ∷ 7 ∷ 6 ∷ []) $ use3 W (raw (Core 𝓤 H A at-mem run .pre to) ⊛ ‵ Rest) (goes fn was) $ split ! $
-        calls-at ! fm (Core 𝓤 H A at-mem run) known to (and-then ! (load ! (from ! (stop !)) (look ! 7 refl)) (and-then ! (load ! (from ! (stop !)) (look ! 13 refl)) (and-then ! (load ! (from ! (stop !)) (look ! 17 refl)) (and-then ! (load ! (from ! (stop !)) (look ! 15 refl)) (no-more !))))) (λ u.
-        use1 W (later (some (λ (t : Recorded). ((‵ (flft κ q) ⊛ ‵ (flft κ₂ q₂) ⊛ ‵ ftrue) ⊛ ‵ (G.the-row .own t (u ∷ []))) ⊛ raw (ensured 𝓤 H A core.ended (core.clauses 𝓤 H A at-mem run) (κ, (κ₂, tt)) args tt t)))) (id⊢ 𝓤 _) $ await ! tt $ pick ! (λ t.
+        calls-at ! fm (Core 𝓤 H A at-mem run) known to (and-then ! (load ! (from ! (stop !)) (look ! 7 refl))
+        (and-then ! (load ! (from ! (stop !)) (look ! 13 refl)) (and-then ! (load ! (from ! (stop !)) (look ! 17 refl)) (and-then ! (load ! (from ! (stop !)) (look ! 15 refl)) (no-more !))))) (λ u.
+        use1 W (later (some (λ (t : Recorded). ((‵ (flft κ q) ⊛ ‵ (flft κ₂ q₂) ⊛ ‵ ftrue) ⊛ ‵ (G.the-row .own t (u ∷ [])))
+        ⊛ raw (ensured 𝓤 H A core.ended (core.clauses 𝓤 H A at-mem run) (κ, (κ₂, tt)) args tt t)))) (id⊢ 𝓤 _) $ await ! tt $ pick ! (λ t.
         split ! $ move ! (1 ∷ []) $ use1 W (some (λ (zs : List ℕ × (Unit {0} × (Unit {0} × (Unit {0} × Unit {0})))). ‵ (lasts core.ended (κ, (κ₂, tt)) args zs) ⊛ raw (fact 𝓤 (Said t (zs .0))))) (id⊢ 𝓤 _) $ pick ! (λ zs.
         split ! $ move ! (1 ∷ []) $ heard ! (Said t (zs .0)) (λ e. fsplit ! $ fsplit ! $ move ! (1 ∷ []) $ feqL ! (λ l.
         move ! (2 ∷ []) $ split ! $ move ! (1 ∷ []) $
@@ -180,19 +191,23 @@ module _ {M : Type 1} (𝓤 : URA M) (H : Heap 𝓤) (A : Atoms 𝓤) (W : Given
         move ! (0 ∷ 1 ∷ 6 ∷ 7 ∷ 8 ∷ []) $ closes ! tt F.the-row (t .flags) (fv (t .flags) ∷ []) b o $
         -- [obs; the borrow; its token; the tokens; the last list; …; what stays 6; _8 7; …; _0 23; …]
         returns ! (look ! 23 refl) $ forget ! 7 refl $ forget ! 9 refl $ forget ! 11 refl $ forget ! 13 refl $ forget ! 15 refl $ forget ! 17 refl $ forget ! 19 refl $ forget ! 21 refl $ forget ! 23 refl $
-        move ! (23 ∷ 24 ∷ []) $ free1 ! $ move ! (21 ∷ 22 ∷ []) $ free1 ! $ move ! (19 ∷ 20 ∷ []) $ free1 ! $ move ! (17 ∷ 18 ∷ []) $ free1 ! $ move ! (15 ∷ 16 ∷ []) $ free1 ! $ move ! (13 ∷ 14 ∷ []) $ free1 ! $ move ! (11 ∷ 12 ∷ []) $ free1 ! $ move ! (9 ∷ 10 ∷ []) $ free1 ! $ move ! (7 ∷ 8 ∷ []) $ free1 ! $ free0 ! $
+        move ! (23 ∷ 24 ∷ []) $ free1 ! $ move ! (21 ∷ 22 ∷ []) $ free1 ! $ move ! (19 ∷ 20 ∷ []) $ free1 ! $ move ! (17 ∷ 18 ∷ []) $ free1 ! $
+        move ! (15 ∷ 16 ∷ []) $ free1 ! $ move ! (13 ∷ 14 ∷ []) $ free1 ! $ move ! (11 ∷ 12 ∷ []) $ free1 ! $ move ! (9 ∷ 10 ∷ []) $ free1 ! $ move ! (7 ∷ 8 ∷ []) $ free1 ! $ free0 ! $
         keep ! (0 ∷ 1 ∷ 2 ∷ 3 ∷ 4 ∷ 6 ∷ []) $ by ! (exits t (zs .0) e l ia))))))))))))))))))
 
 module _ {M : Type 1} (𝓤 : URA M) (H : Heap 𝓤) (A : Atoms 𝓤) (W : Given 𝓤 H A) (mem : Memory → SProp 𝓤) (run : Routine → Fun 𝓤) where
   walks : (C : Calls 𝓤 H) (Λ : Loops 𝓤 H) → FmC 𝓤 H (W .laws) C → Triple 𝓤 (C #batch·record-batch) (Core 𝓤 H A mem run) → Walks 𝓤 H A fun.ended stayed (WpFn 𝓤 H C Λ code.function) (fun.clauses 𝓤 H A mem run)
   walks C Λ fm known = walked 𝓤 H A fun.ended stayed (fun.clauses 𝓤 H A mem run) (WpFn 𝓤 H C Λ code.function)
       (λ κs. (slice-vals, (ptr-vals, (slice-vals, (uint-vals w64, tt))))) (λ κs. (mut-slice-tells (named 0) (κs .0) u8, (mut-tells (named 1) (κs .1 .0) F.the-row, (shr-slice-tells (named 2) (κs .1 .1 .0) u8, (uint-tells w64, tt)))))
-      (λ κs qs bounds a _ are. via 𝓤 _ (fst∗ 𝓤 _ (emp 𝓤)) (walk 𝓤 H A W mem run (κs .0) (κs .1 .0) (κs .1 .1 .0) (qs .0) (qs .1 .0) (qs .1 .1 .0) (a .0 .ptr .0) (a .0 .ptr .1) (a .0 .name) (a .0 .now) (a .1 .0 .ptr .0) (a .1 .0 .ptr .1) (a .1 .0 .name) (a .1 .0 .now) (a .1 .1 .0) (a .1 .1 .1 .0) C Λ fm known (are .0 .0 .1) (are .1 .1 .0) (are .1 .1 .1 .0 .1)))
+      (λ κs qs bounds a _ are. via 𝓤 _ (fst∗ 𝓤 _ (emp 𝓤)) (walk 𝓤 H A W mem run (κs .0) (κs .1 .0) (κs .1 .1 .0) (qs .0) (qs .1 .0) (qs .1 .1 .0) (a .0 .ptr .0) (a .0 .ptr .1)
+      (a .0 .name) (a .0 .now) (a .1 .0 .ptr .0) (a .1 .0 .ptr .1) (a .1 .0 .name) (a .1 .0 .now) (a .1 .1 .0) (a .1 .1 .1 .0) C Λ fm known (are .0 .0 .1) (are .1 .1 .0) (are .1 .1 .1 .0 .1)))
 
 meets : {M : Type 1} (𝓤 : URA M) (H : Heap 𝓤) (A : Atoms 𝓤) → Given 𝓤 H A → (mem : Memory → SProp 𝓤) (run : Routine → Fun 𝓤) (𝓣 : Tables 𝓤 H) → Triple 𝓤 (𝓣 .C #batch·record-batch) (Core 𝓤 H A mem run)
     → Meets 𝓤 H A fun.signature (WpFn 𝓤 H (𝓣 .C) (𝓣 .Λ) code.function) (fun.spec 𝓤 H A mem run)
 meets 𝓤 H A W mem run 𝓣 known =
-    walk-meets 𝓤 H A fun.ended stayed W (goes-gave-slice 𝓤 H A W 3 0 tt (plain (λ _. u8)), (goes-ref 𝓤 H A W 3 1 tt behind, (goes-none-slice 𝓤 H A W 3 (2 ∷ []) tt (plain (λ _. u8)) yes, (goes-none 𝓤 H A W 3 (λ _. u64) yes (λ κs x f. refl), tt)))) (fun.clauses 𝓤 H A mem run)
+    walk-meets 𝓤 H A fun.ended stayed W
+    (goes-gave-slice 𝓤 H A W 3 0 tt (plain (λ _. u8)), (goes-ref 𝓤 H A W 3 1 tt behind, (goes-none-slice 𝓤 H A W 3 (2 ∷ []) tt (plain (λ _. u8)) yes, (goes-none 𝓤 H A W 3 (λ _. u64) yes (λ κs x f. refl), tt))))
+    (fun.clauses 𝓤 H A mem run)
     (WpFn 𝓤 H (𝓣 .C) (𝓣 .Λ) code.function) (WpFn-mono 𝓤 H (W .laws) 𝓣 code.function) (walks 𝓤 H A W mem run (𝓣 .C) (𝓣 .Λ) (fmOf 𝓤 H (W .laws) 𝓣) known)
 
 pub record-batch-spec : {M : Type 1} → stated.statement M

@@ -84,7 +84,8 @@ stayed = (stay-ref (0 ∷ []) tt behind, tt)
 abbrev StepC : {M : Type 1} (𝓤 : URA M) (H : Heap 𝓤) (A : Atoms 𝓤) (mem : Memory → SProp 𝓤) (run : Routine → Fun 𝓤) → Contract 𝓤
 StepC 𝓤 H A mem run = tripleOf 𝓤 H A stp.signature (stp.spec 𝓤 H A mem run)
 
-module _ {M : Type 1} (𝓤 : URA M) (H : Heap 𝓤) (A : Atoms 𝓤) (W : Given 𝓤 H A) (at-mem : Memory → SProp 𝓤) (run : Routine → Fun 𝓤) (κ κ′ : Lft) (q q′ : Share) (bounds : AllOutlive 2 (next.signature .outlives) (κ, (κ′, tt))) (b o : ℕ) (γ : GName) (h : Reader) where
+module _ {M : Type 1} (𝓤 : URA M) (H : Heap 𝓤) (A : Atoms 𝓤) (W : Given 𝓤 H A) (at-mem : Memory → SProp 𝓤) (run : Routine → Fun 𝓤)
+    (κ κ′ : Lft) (q q′ : Share) (bounds : AllOutlive 2 (next.signature .outlives) (κ, (κ′, tt))) (b o : ℕ) (γ : GName) (h : Reader) where
   abbrev x : RefT Reader × Unit {0}
   x = (record { ptr = (b, o); name = γ; now = h }, tt)
 
@@ -140,11 +141,13 @@ module _ {M : Type 1} (𝓤 : URA M) (H : Heap 𝓤) (A : Atoms 𝓤) (W : Given
   apart f =
       qed W (‵ (Own h) ∷ (‵ (flft κ′ q′) ⊛ ‵ ftrue) ∷ []) ∵
       use1 W (‵ (Own h) ⊛ ‵ (Own h)) (LL.copy D (T′.the-copy (α κ′)) 𝓤 H A W .twice h (T′.lowered h ∷ [])) $ split ! $
-      use1 W (given (T′.lowered h ∷ [] ≡ T′.lowered h ∷ []) (‵ (all-own (D .parts) Λs vh))) (own-open 𝓤 H A W D Λs vh (T′.lowered h)) $ learn ! (λ _. use1 W (‵ (ownAt (D .parts) Λs 0 (h .slab)) ⊛ ‵ (rest (D .parts) Λs 0 vh)) (own-out 𝓤 H A W (D .parts) Λs 0 vh) $ split ! $
+      use1 W (given (T′.lowered h ∷ [] ≡ T′.lowered h ∷ []) (‵ (all-own (D .parts) Λs vh))) (own-open 𝓤 H A W D Λs vh (T′.lowered h)) $
+      learn ! (λ _. use1 W (‵ (ownAt (D .parts) Λs 0 (h .slab)) ⊛ ‵ (rest (D .parts) Λs 0 vh)) (own-out 𝓤 H A W (D .parts) Λs 0 vh) $ split ! $
       -- [what slab owns; what the others own; what the struct owns; the token]
       move ! (1 ∷ []) $ drop ! $ nothing ! $
       owned ! L.the-row (Is L.the-row) (LL.makes L.the-type L′.the-plain 𝓤 H A) pl _ (LL.owes L.the-type L′.the-laws pl ((refl, f .1 .1 .1 .0), ((refl, f .1 .1 .1 .1), tt))) $ fjoin ! $
-      owned ! u64 (Is u64) (uint-makes 𝓤 H A W w64) (h .end) _ (refl, f .1 .1 .0) $ fjoin ! $ owned ! u64 (Is u64) (uint-makes 𝓤 H A W w64) (h .start) _ (refl, f .1 .0) $ fjoin ! $ owned ! u32 (Is u32) (uint-makes 𝓤 H A W w32) (h .column) _ (refl, f .0) $ fjoin ! $
+      owned ! u64 (Is u64) (uint-makes 𝓤 H A W w64) (h .end) _ (refl, f .1 .1 .0) $ fjoin ! $ owned ! u64 (Is u64) (uint-makes 𝓤 H A W w64) (h .start) _ (refl, f .1 .0) $
+      fjoin ! $ owned ! u32 (Is u32) (uint-makes 𝓤 H A W w32) (h .column) _ (refl, f .0) $ fjoin ! $
       move ! (1 ∷ 0 ∷ []) $ fjoin ! $ move ! (2 ∷ 0 ∷ []) $ use2 W (raw (StepC 𝓤 H A at-mem run .pre to)) asked $ frame ! $ done !)
 
   -- of the callee's `ensured`, the clause alone
@@ -163,7 +166,8 @@ module _ {M : Type 1} (𝓤 : URA M) (H : Heap 𝓤) (A : Atoms 𝓤) (W : Given
   abbrev pv : Stepped → Val
   pv t = EL.val P.the-type P′.the-laws (t .next)
 
-  exits : (t : Stepped) → t ≡ stepOf h → Is P.the-row (t .next) (pv t ∷ []) → ent 𝓤 (⋆ 𝓤 H A (‵ (fobs γ (B κ′ .coded .code (moved t))) ∷ ‵ (fbor κ (Body (mem (B κ′)) b o γ)) ∷ ‵ (flft κ q) ∷ (‵ (flft κ′ q′) ⊛ ‵ ftrue) ∷ [])) (Post (pv t))
+  exits : (t : Stepped) → t ≡ stepOf h → Is P.the-row (t .next) (pv t ∷ [])
+      → ent 𝓤 (⋆ 𝓤 H A (‵ (fobs γ (B κ′ .coded .code (moved t))) ∷ ‵ (fbor κ (Body (mem (B κ′)) b o γ)) ∷ ‵ (flft κ q) ∷ (‵ (flft κ′ q′) ⊛ ‵ ftrue) ∷ [])) (Post (pv t))
   exits t e is =
       qed W (‵ (fobs γ (B κ′ .coded .code (moved t))) ∷ ‵ (fbor κ (Body (mem (B κ′)) b o γ)) ∷ ‵ (flft κ q) ∷ (‵ (flft κ′ q′) ⊛ ‵ ftrue) ∷ []) ∵
       suffices ! _ (ends-at 𝓤 H A next.ended stayed (next.clauses 𝓤 H A at-mem run) W (((κ, (κ′, tt)), (q, (q′, tt)), bounds, x, at), tt) (pv t) (t .next) (moved t, tt) (tt, tt)) $ says ! ((λ i. e i .next), (λ i. moved (e i))) $
@@ -175,7 +179,8 @@ module _ {M : Type 1} (𝓤 : URA M) (H : Heap 𝓤) (A : Atoms 𝓤) (W : Given
     walk : ent 𝓤 (onEntry 𝓤 H A next.signature (κ, (κ′, tt)) (q, (q′, tt)) x at) (WpFn 𝓤 H C Λ code.function (vptr b o ∷ []) Post)
     walk =
         qed W ((‵ (flft κ q) ⊛ ‵ (flft κ′ q′) ⊛ ‵ ftrue) ∷ ‵ (owns (MutRef (named 0) κ (B κ′) ∷ []) x at) ∷ []) ∵ enter ! C Λ code.function (vptr b o ∷ []) _ $
-        alloc1 ! (λ l₀. alloc1 ! (λ l₁. alloc1 ! (λ l₂. alloc1 ! (λ l₃. alloc1 ! (λ l₄. alloc1 ! (λ l₅. alloc1 ! (λ l₆. alloc1 ! (λ l₇. alloc1 ! (λ l₈. alloc1 ! (λ l₉. alloc0 ! $ params1 ! $ pass1 ! (init ! 16 refl (tt, tt)) $ pass0 ! $
+        alloc1 ! (λ l₀. alloc1 ! (λ l₁. alloc1 ! (λ l₂. alloc1 ! (λ l₃. alloc1 ! (λ l₄. alloc1 ! (λ l₅. alloc1 ! (λ l₆. alloc1 ! (λ l₇. alloc1 ! (λ l₈. alloc1 ! (λ l₉. alloc0 ! $
+        params1 ! $ pass1 ! (init ! 16 refl (tt, tt)) $ pass0 ! $
         move ! (21 ∷ []) $ fsplit ! $ fsplit3 ! $ drop ! $ move ! (23 ∷ []) $ split ! $ move ! (2 ∷ 3 ∷ 0 ∷ []) $
         opens ! tt (B κ′) {h = h} b o (λ vs. spelt ! (B κ′) (Is (B κ′)) (shows 𝓤 H A (B κ′)) (LL.vals D Λs) (LL.tells D Λs) fullShare h vs b o $
         use1 W (‵ (fat fullShare (T′.mir erased) b o (T′.lowered h))) (W .laws .raw-at fullShare (T′.mir erased) b o (T′.lowered h)) $
@@ -192,8 +197,11 @@ module _ {M : Type 1} (𝓤 : URA M) (H : Heap 𝓤) (A : Atoms 𝓤) (W : Given
         -- the call
         move ! (1 ∷ 5 ∷ []) $ use2 W (raw (StepC 𝓤 H A at-mem run .pre to) ⊛ ‵ (Own h)) (apart (wt .1 .1 .0 .fits, (wt .1 .1 .1 .0 .fits, (wt .1 .1 .1 .1 .0 .fits, (wt .1 .1 .1 .1 .1 .0 .fits, wt .1 .1 .1 .1 .1 .1 .0 .fits))))) $ split ! $
         -- [step's pre; what the Reader owns; the cell; the open borrow; obs; auth; true; _9 7; …]
-        calls-at ! fm (StepC 𝓤 H A at-mem run) known to (and-then ! (load ! (from ! (stop !)) (look ! 21 refl)) (and-then ! (load ! (from ! (stop !)) (look ! 19 refl)) (and-then ! (load ! (from ! (stop !)) (look ! 17 refl)) (and-then ! (load ! (from ! (stop !)) (look ! 15 refl)) (and-then ! (load ! (from ! (stop !)) (look ! 13 refl)) (no-more !)))))) (λ u.
-        use1 W (later (some (λ (t : Stepped). ((‵ (flft κ′ q′) ⊛ ‵ ftrue) ⊛ ‵ (S.the-row .own t (u ∷ []))) ⊛ raw (ensured 𝓤 H A stp.ended (stp.clauses 𝓤 H A at-mem run) (κ′, tt) args tt t)))) (id⊢ 𝓤 _) $ await ! tt $ pick ! (λ t.
+        calls-at ! fm (StepC 𝓤 H A at-mem run) known to (and-then ! (load ! (from ! (stop !)) (look ! 21 refl))
+        (and-then ! (load ! (from ! (stop !)) (look ! 19 refl)) (and-then ! (load ! (from ! (stop !)) (look ! 17 refl))
+        (and-then ! (load ! (from ! (stop !)) (look ! 15 refl)) (and-then ! (load ! (from ! (stop !)) (look ! 13 refl)) (no-more !)))))) (λ u.
+        use1 W (later (some (λ (t : Stepped). ((‵ (flft κ′ q′) ⊛ ‵ ftrue) ⊛ ‵ (S.the-row .own t (u ∷ [])))
+        ⊛ raw (ensured 𝓤 H A stp.ended (stp.clauses 𝓤 H A at-mem run) (κ′, tt) args tt t)))) (id⊢ 𝓤 _) $ await ! tt $ pick ! (λ t.
         split ! $ move ! (1 ∷ []) $ use1 W (raw (fact 𝓤 (t ≡ stepOf h))) (said t) $ heard ! (t ≡ stepOf h) (λ e. split ! $ move ! (1 ∷ []) $
         -- [the result; 'a's token; what the Reader owns; the cell; the open borrow; obs; auth; true; _9 8; …; _8 10; _7 12; _6 14; …; _1 24; room for _0 26; …]
         peeks ! S.the-row (Is S.the-row) (shows 𝓤 H A S.the-row) t (u ∷ []) (λ is.
@@ -203,15 +211,18 @@ module _ {M : Type 1} (𝓤 : URA M) (H : Heap 𝓤) (A : Atoms 𝓤) (W : Given
         land ! (from ! (stop !)) (init ! 12 refl (LL.lawful S.the-type S′.the-laws 𝓤 H A W .typed t _ is .0)) $
         rewrite ! 12 (λ (w : Val). ‵ (fat fullShare S′.mir l₇ 0 w)) (ap only (LL.tells S.the-type S′.the-laws t (u ∷ []) is)) refl $ drop ! $
         -- ['a's token; what the Reader owns; the cell 2; the open borrow; obs; auth; true; _9 7; …; _8 9; _7 11; …; _1 23; room for _0 25; …]
-        assigns ! (of-opd ! (load ! (from ! (fld ! refl (fld ! refl (stop !)))) (look-in ! 11 (sub ! 0 refl (sub ! 1 refl (whole !)))))) (from ! (hop ! (look ! 23 refl) (fld ! refl (stop !)))) (store-in ! 2 (sub ! 4 refl (whole !)) (tt, ws .1 .1 .0 .0)) $
-        assigns ! (of-opd ! (load ! (from ! (fld ! refl (fld ! refl (stop !)))) (look-in ! 11 (sub ! 1 refl (sub ! 1 refl (whole !)))))) (from ! (hop ! (look ! 23 refl) (fld ! refl (stop !)))) (store-in ! 2 (sub ! 5 refl (whole !)) (tt, ws .1 .1 .0 .1 .0)) $
+        assigns ! (of-opd ! (load ! (from ! (fld ! refl (fld ! refl (stop !)))) (look-in ! 11 (sub ! 0 refl (sub ! 1 refl (whole !))))))
+        (from ! (hop ! (look ! 23 refl) (fld ! refl (stop !)))) (store-in ! 2 (sub ! 4 refl (whole !)) (tt, ws .1 .1 .0 .0)) $
+        assigns ! (of-opd ! (load ! (from ! (fld ! refl (fld ! refl (stop !)))) (look-in ! 11 (sub ! 1 refl (sub ! 1 refl (whole !))))))
+        (from ! (hop ! (look ! 23 refl) (fld ! refl (stop !)))) (store-in ! 2 (sub ! 5 refl (whole !)) (tt, ws .1 .1 .0 .1 .0)) $
         assigns ! (of-opd ! (load ! (from ! (fld ! refl (stop !))) (look-in ! 11 (sub ! 0 refl (whole !))))) (from ! (stop !)) (init ! 25 refl (EL.lawful P.the-type P′.the-laws 𝓤 H A W tt .typed (t .next) _ ip .0)) $
         move ! (1 ∷ []) $ use1 W (‵ (Own (moved t))) (again t (ws .1 .1 .0 .0 .fits) (ws .1 .1 .0 .1 .0 .fits)) $
         move ! (2 ∷ []) $ use1 W (‵ (cellAt fullShare (B κ′ .mir) (T′.lowered (moved t) ∷ []) b o)) (W .laws .at-raw fullShare (T′.mir erased) b o (T′.lowered (moved t))) $
         move ! (0 ∷ 1 ∷ 3 ∷ 4 ∷ 5 ∷ []) $ closes ! tt (B κ′) (moved t) (T′.lowered (moved t) ∷ []) b o $
         -- [obs; the borrow; 's's token; 'a's; true; _9 5; …; _0 23; …]
         returns ! (look ! 23 refl) $ forget ! 5 refl $ forget ! 7 refl $ forget ! 9 refl $ forget ! 11 refl $ forget ! 13 refl $ forget ! 15 refl $ forget ! 17 refl $ forget ! 19 refl $ forget ! 21 refl $ forget ! 23 refl $
-        move ! (23 ∷ 24 ∷ []) $ free1 ! $ move ! (21 ∷ 22 ∷ []) $ free1 ! $ move ! (19 ∷ 20 ∷ []) $ free1 ! $ move ! (17 ∷ 18 ∷ []) $ free1 ! $ move ! (15 ∷ 16 ∷ []) $ free1 ! $ move ! (13 ∷ 14 ∷ []) $ free1 ! $ move ! (11 ∷ 12 ∷ []) $ free1 ! $ move ! (9 ∷ 10 ∷ []) $ free1 ! $ move ! (7 ∷ 8 ∷ []) $ free1 ! $ move ! (5 ∷ 6 ∷ []) $ free1 ! $ free0 ! $
+        move ! (23 ∷ 24 ∷ []) $ free1 ! $ move ! (21 ∷ 22 ∷ []) $ free1 ! $ move ! (19 ∷ 20 ∷ []) $ free1 ! $ move ! (17 ∷ 18 ∷ []) $ free1 ! $ move ! (15 ∷ 16 ∷ []) $ free1 ! $
+        move ! (13 ∷ 14 ∷ []) $ free1 ! $ move ! (11 ∷ 12 ∷ []) $ free1 ! $ move ! (9 ∷ 10 ∷ []) $ free1 ! $ move ! (7 ∷ 8 ∷ []) $ free1 ! $ move ! (5 ∷ 6 ∷ []) $ free1 ! $ free0 ! $
         keep ! (0 ∷ 1 ∷ 2 ∷ 3 ∷ []) $ by ! (exits t e ip)))))))))))))))))
 
 module _ {M : Type 1} (𝓤 : URA M) (H : Heap 𝓤) (A : Atoms 𝓤) (W : Given 𝓤 H A) (mem : Memory → SProp 𝓤) (run : Routine → Fun 𝓤) where
@@ -221,7 +232,8 @@ module _ {M : Type 1} (𝓤 : URA M) (H : Heap 𝓤) (A : Atoms 𝓤) (W : Given
 
 next-meets : {M : Type 1} (𝓤 : URA M) (H : Heap 𝓤) (A : Atoms 𝓤) → Given 𝓤 H A → (mem : Memory → SProp 𝓤) (run : Routine → Fun 𝓤) (𝓣 : Tables 𝓤 H) → Triple 𝓤 (𝓣 .C #reader·step) (StepC 𝓤 H A mem run)
     → Meets 𝓤 H A next.signature (WpFn 𝓤 H (𝓣 .C) (𝓣 .Λ) code.function) (next.spec 𝓤 H A mem run)
-next-meets 𝓤 H A W mem run 𝓣 known = walk-meets 𝓤 H A next.ended stayed W (goes-ref 𝓤 H A W 2 0 tt behind, tt) (next.clauses 𝓤 H A mem run) (WpFn 𝓤 H (𝓣 .C) (𝓣 .Λ) code.function) (WpFn-mono 𝓤 H (W .laws) 𝓣 code.function) (next-walks 𝓤 H A W mem run (𝓣 .C) (𝓣 .Λ) (fmOf 𝓤 H (W .laws) 𝓣) known)
+next-meets 𝓤 H A W mem run 𝓣 known = walk-meets 𝓤 H A next.ended stayed W (goes-ref 𝓤 H A W 2 0 tt behind, tt) (next.clauses 𝓤 H A mem run)
+    (WpFn 𝓤 H (𝓣 .C) (𝓣 .Λ) code.function) (WpFn-mono 𝓤 H (W .laws) 𝓣 code.function) (next-walks 𝓤 H A W mem run (𝓣 .C) (𝓣 .Λ) (fmOf 𝓤 H (W .laws) 𝓣) known)
 
 pub next-spec : {M : Type 1} → stated.statement M
 unfolding code.routine tablesOf

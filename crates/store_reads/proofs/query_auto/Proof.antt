@@ -149,10 +149,14 @@ module _ {M : Type 1} (𝓤 : URA M) (H : Heap 𝓤) (A : Atoms 𝓤) (W : Given
         let wf : Holds (hasTy F′.mir (fv f)) × WT (fv f) = LL.lawful F.the-type F′.the-laws 𝓤 H A W .typed f _ (p .0) .0 in
         let wn : Holds (hasTy N′.mir (nv h)) × WT (nv h) = LL.lawful N.the-type N′.the-laws 𝓤 H A W .typed h _ (p .1 .0) .0 in
         alloc1 ! (λ l0. alloc1 ! (λ l1. alloc1 ! (λ l2. alloc1 ! (λ l3. alloc1 ! (λ l4. alloc1 ! (λ l5. alloc1 ! (λ l6. alloc1 ! (λ l7. alloc1 ! (λ l8. alloc1 ! (λ l9. alloc0 ! $ params1 ! $
-        pass1 ! (init ! 16 refl (shr-slice-lawful 𝓤 H A W (named 0) κ u8 .typed s (v ∷ []) ps .0)) $ pass1 ! (init ! 14 refl wf) $ pass1 ! (init ! 12 refl wn) $ pass1 ! (init ! 10 refl (tt, record { fits = p .1 .1 .0 })) $ pass1 ! (init ! 8 refl (tt, record { fits = p .1 .1 .1 })) $ pass0 ! $
+        pass1 ! (init ! 16 refl (shr-slice-lawful 𝓤 H A W (named 0) κ u8 .typed s (v ∷ []) ps .0)) $ pass1 ! (init ! 14 refl wf) $ pass1 ! (init ! 12 refl wn) $
+        pass1 ! (init ! 10 refl (tt, record { fits = p .1 .1 .0 })) $ pass1 ! (init ! 8 refl (tt, record { fits = p .1 .1 .1 })) $ pass0 ! $
         move ! (20 ∷ []) $ use1 W (raw (Core 𝓤 H A at-mem run .pre to) ⊛ ‵ (Own κ s)) (goes p) $ split ! $
-        calls-at ! fm (Core 𝓤 H A at-mem run) known-core to (and-then ! (load ! (from ! (stop !)) (look ! 18 refl)) (and-then ! (load ! (from ! (stop !)) (look ! 16 refl)) (and-then ! (load ! (from ! (stop !)) (look ! 14 refl)) (and-then ! (load ! (from ! (stop !)) (look ! 12 refl)) (and-then ! (load ! (from ! (stop !)) (look ! 10 refl)) (no-more !)))))) (λ u.
-        use1 W (later (some (λ (t : Start). ((‵ (flft κ q) ⊛ ‵ ftrue) ⊛ ‵ (G.the-row .own t (u ∷ []))) ⊛ raw (ensured 𝓤 H A core.ended (core.clauses 𝓤 H A at-mem run) (κ, tt) x tt t)))) (id⊢ 𝓤 _) $ await ! tt $ pick ! (λ t.
+        calls-at ! fm (Core 𝓤 H A at-mem run) known-core to (and-then ! (load ! (from ! (stop !)) (look ! 18 refl))
+        (and-then ! (load ! (from ! (stop !)) (look ! 16 refl)) (and-then ! (load ! (from ! (stop !)) (look ! 14 refl))
+        (and-then ! (load ! (from ! (stop !)) (look ! 12 refl)) (and-then ! (load ! (from ! (stop !)) (look ! 10 refl)) (no-more !)))))) (λ u.
+        use1 W (later (some (λ (t : Start). ((‵ (flft κ q) ⊛ ‵ ftrue) ⊛ ‵ (G.the-row .own t (u ∷ [])))
+        ⊛ raw (ensured 𝓤 H A core.ended (core.clauses 𝓤 H A at-mem run) (κ, tt) x tt t)))) (id⊢ 𝓤 _) $ await ! tt $ pick ! (λ t.
         split ! $ move ! (1 ∷ []) $ use1 W (raw (fact 𝓤 (Said t))) (core-said t) $ heard ! (Said t) (λ said. split ! $ move ! (1 ∷ []) $
         -- [the answer; the token; what s owns; _9 3; …; _6 9; …; room for _0 21; …]
         peeks ! G.the-row (Is G.the-row) (shows 𝓤 H A G.the-row) t (u ∷ []) (λ is.
@@ -164,35 +168,51 @@ module _ {M : Type 1} (𝓤 : URA M) (H : Heap 𝓤) (A : Atoms 𝓤) (W : Given
         rewrite ! 9 (λ (w : Val). ‵ (fat fullShare G′.mir l6 0 w)) (ap only (LL.tells G.the-type G′.the-laws t (u ∷ []) is)) refl $ drop ! $
         -- the part
         use2 W (raw (PartC 𝓤 H A at-mem run .pre (to-part 𝓤 H A at-mem run κ q s t)) ⊛ ‵ (Own κ s)) (goes-part 𝓤 H A at-mem run W κ q s t (ws .1 .1 .0 .fits) (ws .1 .1 .1 .0 .fits)) $ split ! $
-        calls-at ! fm (PartC 𝓤 H A at-mem run) known-part (to-part 𝓤 H A at-mem run κ q s t) (and-then ! (load ! (from ! (stop !)) (look ! 18 refl)) (and-then ! (load ! (from ! (fld ! refl (stop !))) (look-in ! 8 (sub ! 1 refl (whole !)))) (and-then ! (load ! (from ! (fld ! refl (stop !))) (look-in ! 8 (sub ! 2 refl (whole !)))) (no-more !)))) (λ w.
-        use1 W (later (some (λ (y : RefT (List ℕ)). ((‵ (flft κ q) ⊛ ‵ ftrue) ⊛ ‵ (ShrSlice (named 0) κ u8 .own y (w ∷ []))) ⊛ raw (ensured 𝓤 H A part.ended (part.clauses 𝓤 H A at-mem run) (κ, tt) (part-args s t) tt y)))) (id⊢ 𝓤 _) $ await ! tt $ pick ! (λ y.
-        split ! $ move ! (1 ∷ []) $ use1 W (raw (fact 𝓤 (now y ≡ partOf (now s) (t .from) (t .to - t .from)))) (part-said 𝓤 H A at-mem run κ s t y) $ heard ! (now y ≡ partOf (now s) (t .from) (t .to - t .from)) (λ ey. split ! $ move ! (1 ∷ []) $
+        calls-at ! fm (PartC 𝓤 H A at-mem run) known-part (to-part 𝓤 H A at-mem run κ q s t) (and-then ! (load ! (from ! (stop !)) (look ! 18 refl))
+        (and-then ! (load ! (from ! (fld ! refl (stop !))) (look-in ! 8 (sub ! 1 refl (whole !)))) (and-then ! (load ! (from ! (fld ! refl (stop !))) (look-in ! 8 (sub ! 2 refl (whole !)))) (no-more !)))) (λ w.
+        use1 W (later (some (λ (y : RefT (List ℕ)). ((‵ (flft κ q) ⊛ ‵ ftrue) ⊛ ‵ (ShrSlice (named 0) κ u8 .own y (w ∷ [])))
+        ⊛ raw (ensured 𝓤 H A part.ended (part.clauses 𝓤 H A at-mem run) (κ, tt) (part-args s t) tt y)))) (id⊢ 𝓤 _) $ await ! tt $ pick ! (λ y.
+        split ! $ move ! (1 ∷ []) $ use1 W (raw (fact 𝓤 (now y ≡ partOf (now s) (t .from) (t .to - t .from)))) (part-said 𝓤 H A at-mem run κ s t y) $
+        heard ! (now y ≡ partOf (now s) (t .from) (t .to - t .from)) (λ ey. split ! $ move ! (1 ∷ []) $
         -- [what the part owns; the token; what s owns; _9 3; …; _7 7; _6 9; …]
         peeks ! (ShrSlice (named 0) κ u8) (Is (ShrSlice (named 0) κ u8)) (shows 𝓤 H A (ShrSlice (named 0) κ u8)) y (w ∷ []) (λ iw.
         land ! (from ! (stop !)) (init ! 7 refl (shr-slice-lawful 𝓤 H A W erased κ u8 .typed y (w ∷ []) iw .0)) $
         rewrite ! 7 (λ (z : Val). ‵ (fat fullShare (sliceTy (tyRef erased imm (tyInt w8))) l7 0 z)) (ap only (shr-slice-tells (named 0) κ u8 y (w ∷ []) iw)) refl $
         rewrite ! 0 (λ (zs : List Val). ‵ (ShrSlice (named 0) κ u8 .own y zs)) (shr-slice-tells (named 0) κ u8 y (w ∷ []) iw) refl $
         peeks ! (ShrSlice (named 0) κ u8) (Is (ShrSlice (named 0) κ u8)) (shows 𝓤 H A (ShrSlice (named 0) κ u8)) y (slice-vals y) (λ iy.
-        let il : Is (T.the-row (αᵉ κ)) (rd t y) (T′.lowered (rd t y) ∷ []) = LL.owes (T.the-type (αᵉ κ)) (T′.the-laws (αᵉ κ)) (rd t y) (iy, ((refl, fit .0), ((refl, fit .1 .0), ((refl, fit .1 .1 .0), ((refl, fit .1 .1 .1 .0), ((refl, fit .1 .1 .1 .1), tt)))))) in
+        let il : Is (T.the-row (αᵉ κ)) (rd t y) (T′.lowered (rd t y) ∷ []) = LL.owes (T.the-type (αᵉ κ)) (T′.the-laws (αᵉ κ)) (rd t y)
+        (iy, ((refl, fit .0), ((refl, fit .1 .0), ((refl, fit .1 .1 .0), ((refl, fit .1 .1 .1 .0), ((refl, fit .1 .1 .1 .1), tt)))))) in
         let ih : Is (R.the-row (α κ)) (made t y) (hv t y ∷ []) = LL.owes (R.the-type (α κ)) (R′.the-laws (α κ)) (made t y) (iq, (il, tt)) in
         let wr : Holds (hasTy (T′.mir erased) (T′.lowered (rd t y))) × WT (T′.lowered (rd t y)) = LL.lawful (T.the-type (αᵉ κ)) (T′.the-laws (αᵉ κ)) 𝓤 H A W .typed (rd t y) _ il .0 in
-        assigns ! (agg ! (and-then ! (load ! (from ! (stop !)) (look ! 7 refl)) (and-then ! (load ! (from ! (fld ! refl (stop !))) (look-in ! 9 (sub ! 3 refl (whole !)))) (and-then ! (load ! (from ! (fld ! refl (stop !))) (look-in ! 9 (sub ! 4 refl (whole !)))) (and-then ! (load ! (from ! (fld ! refl (stop !))) (look-in ! 9 (sub ! 5 refl (whole !)))) (and-then ! (load ! (from ! (fld ! refl (stop !))) (look-in ! 9 (sub ! 6 refl (whole !)))) (and-then ! (load ! (from ! (fld ! refl (stop !))) (look-in ! 9 (sub ! 7 refl (whole !)))) (no-more !)))))))) (from ! (stop !)) (init ! 5 refl wr) $
+        assigns ! (agg ! (and-then ! (load ! (from ! (stop !)) (look ! 7 refl)) (and-then ! (load ! (from ! (fld ! refl (stop !))) (look-in ! 9 (sub ! 3 refl (whole !))))
+        (and-then ! (load ! (from ! (fld ! refl (stop !))) (look-in ! 9 (sub ! 4 refl (whole !)))) (and-then ! (load ! (from ! (fld ! refl (stop !))) (look-in ! 9 (sub ! 5 refl (whole !))))
+        (and-then ! (load ! (from ! (fld ! refl (stop !))) (look-in ! 9 (sub ! 6 refl (whole !)))) (and-then ! (load ! (from ! (fld ! refl (stop !))) (look-in ! 9 (sub ! 7 refl (whole !)))) (no-more !))))))))
+        (from ! (stop !)) (init ! 5 refl wr) $
         assigns ! (of-opd ! (load ! (from ! (stop !)) (look ! 5 refl))) (from ! (stop !)) (init ! 3 refl wr) $
-        assigns ! (agg ! (and-then ! (load ! (from ! (fld ! refl (stop !))) (look-in ! 9 (sub ! 0 refl (whole !)))) (and-then ! (load ! (from ! (stop !)) (look ! 3 refl)) (no-more !)))) (from ! (stop !)) (init ! 21 refl (LL.lawful (R.the-type (α κ)) (R′.the-laws (α κ)) 𝓤 H A W .typed (made t y) _ ih .0)) $
+        assigns ! (agg ! (and-then ! (load ! (from ! (fld ! refl (stop !))) (look-in ! 9 (sub ! 0 refl (whole !)))) (and-then ! (load ! (from ! (stop !)) (look ! 3 refl)) (no-more !))))
+        (from ! (stop !)) (init ! 21 refl (LL.lawful (R.the-type (α κ)) (R′.the-laws (α κ)) 𝓤 H A W .typed (made t y) _ ih .0)) $
         returns ! (look ! 21 refl) $ forget ! 3 refl $ forget ! 5 refl $ forget ! 7 refl $ forget ! 9 refl $ forget ! 11 refl $ forget ! 13 refl $ forget ! 15 refl $ forget ! 17 refl $ forget ! 19 refl $ forget ! 21 refl $
-        move ! (21 ∷ 22 ∷ []) $ free1 ! $ move ! (19 ∷ 20 ∷ []) $ free1 ! $ move ! (17 ∷ 18 ∷ []) $ free1 ! $ move ! (15 ∷ 16 ∷ []) $ free1 ! $ move ! (13 ∷ 14 ∷ []) $ free1 ! $ move ! (11 ∷ 12 ∷ []) $ free1 ! $ move ! (9 ∷ 10 ∷ []) $ free1 ! $ move ! (7 ∷ 8 ∷ []) $ free1 ! $ move ! (5 ∷ 6 ∷ []) $ free1 ! $ move ! (3 ∷ 4 ∷ []) $ free1 ! $ free0 ! $
+        move ! (21 ∷ 22 ∷ []) $ free1 ! $ move ! (19 ∷ 20 ∷ []) $ free1 ! $ move ! (17 ∷ 18 ∷ []) $ free1 ! $ move ! (15 ∷ 16 ∷ []) $ free1 ! $ move ! (13 ∷ 14 ∷ []) $ free1 ! $
+        move ! (11 ∷ 12 ∷ []) $ free1 ! $ move ! (9 ∷ 10 ∷ []) $ free1 ! $ move ! (7 ∷ 8 ∷ []) $ free1 ! $ move ! (5 ∷ 6 ∷ []) $ free1 ! $ move ! (3 ∷ 4 ∷ []) $ free1 ! $ free0 ! $
         keep ! (0 ∷ 1 ∷ 2 ∷ []) $ by ! (exits t y p fit said ey iq))))))))))))))))))))
 
 module _ {M : Type 1} (𝓤 : URA M) (H : Heap 𝓤) (A : Atoms 𝓤) (W : Given 𝓤 H A) (mem : Memory → SProp 𝓤) (run : Routine → Fun 𝓤) where
-  walks : (C : Calls 𝓤 H) (Λ : Loops 𝓤 H) → FmC 𝓤 H (W .laws) C → Triple 𝓤 (C #readers·start-auto) (Core 𝓤 H A mem run) → Triple 𝓤 (C #readers·part) (PartC 𝓤 H A mem run) → Walks 𝓤 H A fun.ended stayed (WpFn 𝓤 H C Λ code.function) (fun.clauses 𝓤 H A mem run)
+  walks : (C : Calls 𝓤 H) (Λ : Loops 𝓤 H) → FmC 𝓤 H (W .laws) C → Triple 𝓤 (C #readers·start-auto) (Core 𝓤 H A mem run)
+      → Triple 𝓤 (C #readers·part) (PartC 𝓤 H A mem run) → Walks 𝓤 H A fun.ended stayed (WpFn 𝓤 H C Λ code.function) (fun.clauses 𝓤 H A mem run)
   walks C Λ fm kc kp = walked 𝓤 H A fun.ended stayed (fun.clauses 𝓤 H A mem run) (WpFn 𝓤 H C Λ code.function)
-      (λ κs. (slice-vals, (LL.vals F.the-type F′.the-laws, (LL.vals N.the-type N′.the-laws, (uint-vals w64, (uint-vals w64, tt)))))) (λ κs. (shr-slice-tells (named 0) (κs .0) u8, (LL.tells F.the-type F′.the-laws, (LL.tells N.the-type N′.the-laws, (uint-tells w64, (uint-tells w64, tt))))))
-      (λ κs qs bounds a _ are. via 𝓤 _ (fst∗ 𝓤 _ (emp 𝓤)) (walk 𝓤 H A W mem run (κs .0) (qs .0) (a .0) (a .1 .0) (a .1 .1 .0) (a .1 .1 .1 .0) (a .1 .1 .1 .1 .0) C Λ fm kc kp (are .0) (are .1 .0, (are .1 .1 .0, (are .1 .1 .1 .0 .1, are .1 .1 .1 .1 .0 .1)))))
+      (λ κs. (slice-vals, (LL.vals F.the-type F′.the-laws, (LL.vals N.the-type N′.the-laws, (uint-vals w64, (uint-vals w64, tt))))))
+      (λ κs. (shr-slice-tells (named 0) (κs .0) u8, (LL.tells F.the-type F′.the-laws, (LL.tells N.the-type N′.the-laws, (uint-tells w64, (uint-tells w64, tt))))))
+      (λ κs qs bounds a _ are. via 𝓤 _ (fst∗ 𝓤 _ (emp 𝓤)) (walk 𝓤 H A W mem run (κs .0) (qs .0) (a .0) (a .1 .0) (a .1 .1 .0)
+      (a .1 .1 .1 .0) (a .1 .1 .1 .1 .0) C Λ fm kc kp (are .0) (are .1 .0, (are .1 .1 .0, (are .1 .1 .1 .0 .1, are .1 .1 .1 .1 .0 .1)))))
 
-meets : {M : Type 1} (𝓤 : URA M) (H : Heap 𝓤) (A : Atoms 𝓤) → Given 𝓤 H A → (mem : Memory → SProp 𝓤) (run : Routine → Fun 𝓤) (𝓣 : Tables 𝓤 H) → Triple 𝓤 (𝓣 .C #readers·start-auto) (Core 𝓤 H A mem run) → Triple 𝓤 (𝓣 .C #readers·part) (PartC 𝓤 H A mem run)
+meets : {M : Type 1} (𝓤 : URA M) (H : Heap 𝓤) (A : Atoms 𝓤) → Given 𝓤 H A → (mem : Memory → SProp 𝓤) (run : Routine → Fun 𝓤) (𝓣 : Tables 𝓤 H)
+    → Triple 𝓤 (𝓣 .C #readers·start-auto) (Core 𝓤 H A mem run) → Triple 𝓤 (𝓣 .C #readers·part) (PartC 𝓤 H A mem run)
     → Meets 𝓤 H A fun.signature (WpFn 𝓤 H (𝓣 .C) (𝓣 .Λ) code.function) (fun.spec 𝓤 H A mem run)
 meets 𝓤 H A W mem run 𝓣 kc kp =
-    walk-meets 𝓤 H A fun.ended stayed W (goes-none-slice 𝓤 H A W 1 (0 ∷ []) tt (plain (λ _. u8)) yes, (goes-none 𝓤 H A W 1 (λ _. F.the-row) yes (λ κs x f. refl), (goes-none 𝓤 H A W 1 (λ _. N.the-row) yes (λ κs x f. refl), (goes-none 𝓤 H A W 1 (λ _. u64) yes (λ κs x f. refl), (goes-none 𝓤 H A W 1 (λ _. u64) yes (λ κs x f. refl), tt))))) (fun.clauses 𝓤 H A mem run)
+    let word = goes-none 𝓤 H A W 1 (λ _. u64) yes (λ κs x f. refl) in
+    walk-meets 𝓤 H A fun.ended stayed W
+    (goes-none-slice 𝓤 H A W 1 (0 ∷ []) tt (plain (λ _. u8)) yes, (goes-none 𝓤 H A W 1 (λ _. F.the-row) yes (λ κs x f. refl), (goes-none 𝓤 H A W 1 (λ _. N.the-row) yes (λ κs x f. refl), (word, (word, tt)))))
+    (fun.clauses 𝓤 H A mem run)
     (WpFn 𝓤 H (𝓣 .C) (𝓣 .Λ) code.function) (WpFn-mono 𝓤 H (W .laws) 𝓣 code.function) (walks 𝓤 H A W mem run (𝓣 .C) (𝓣 .Λ) (fmOf 𝓤 H (W .laws) 𝓣) kc kp)
 
 pub query-auto-spec : {M : Type 1} → stated.statement M
