@@ -10,13 +10,13 @@ use Rattle.model.specs.Layout.{freshValue}
 use Rattle.model.specs.Image.{rowCount, rowPlace, rowAt, rowSlots, imageLength, createCheck, openCheck, freshImage}
 use Rattle.model.specs.Ring.{cell}
 use Rattle.model.specs.Lent.{Lent, createOn, creation, row, ring}
+use Rattle.laws.specs.Fresh.{freshOf}
 use Rattle.ring_theory.specs.Hold.{Blank}
-use Rattle.image_theory.specs.Checks.{TierOk, tiers-ok, Like}
+use Rattle.image_theory.specs.Checks.{Like}
 use Rattle.image_theory.specs.Good.{Good, open-good, good-open}
 use Rattle.fresh_theory.specs.Fields.{AllBytes, get-low}
 use Rattle.fresh_theory.specs.FreshSlab.{cell-fresh, blank-fresh}
-use Rattle.fresh_theory.specs.ReadBack.{freshOf}
-use Rattle.fresh_theory.specs.FreshImage.{Plan, plan-parts, row-fresh, series-low, like-fresh, slab-fresh, good-fresh}
+use Rattle.fresh_theory.specs.FreshImage.{Plan, plan-parts, plan-tier, row-fresh, series-low, like-fresh, slab-fresh, good-fresh}
 
 module _ (p : List ℕ) (l : Lent) (accepted : createCheck p (l .image) ≡ 0) where
   left : creation p l ≡ record { image = freshImage p ++ drop (imageLength p) (l .image); flags = replicate (rowCount p) false ++ drop (rowCount p) (l .flags) }
@@ -67,19 +67,16 @@ module _ (p : List ℕ) (l : Lent) (accepted : createCheck p (l .image) ≡ 0) w
     pub created-flags : rowCount p ≤ length (creation p l .flags)
     created-flags = rw left (omega (arith, length-append (replicate (rowCount p) false) (drop (rowCount p) (l .flags)), length-replicate (rowCount p) false))
 
-    tier-at : (i : ℕ) → i < rowCount p → TierOk (rowAt p i)
-    tier-at = tiers-ok p (plan-is .shape-is) (plan-is .layout-is)
-
     pub created-blank : (i : ℕ) → i < rowCount p → Blank (ring (creation p l) i) (rowSlots (rowAt p i)) (rowAt p i .series) (rowAt p i .interval)
     created-blank i h =
         let r = rowAt p i in
-        let t = tier-at i h in
+        let t = plan-tier p plan-is i h in
         rw (created-ring i h)
         (blank-fresh (r .hash) (rowSlots r) (r .series) (r .interval) (omega (arith, t .few-slots)) (low i h) (omega (arith, t .interval-low)) (t .some-slots) (t .long))
 
     pub created-cell : (i c j : ℕ) → i < rowCount p → c < rowAt p i .series → j < rowSlots (rowAt p i) → cell (ring (creation p l) i .slab) c j ≡ freshValue
     created-cell i c j h hc hj =
         let r = rowAt p i in
-        let t = tier-at i h in
+        let t = plan-tier p plan-is i h in
         rw (created-ring i h)
         (cell-fresh (r .hash) (rowSlots r) (r .series) (r .interval) (omega (arith, t .few-slots)) (low i h) (omega (arith, t .interval-low)) c j hc hj)

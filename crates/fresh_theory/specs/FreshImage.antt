@@ -15,11 +15,12 @@ use Rattle.model.specs.Layout.{directory, stampsBehind, columnBehind, columnAt,
 use Rattle.model.specs.Image.{tierCheck, schemas, rowCount, totalLength, rowPlace, rowAt, rowsFrom, rows, rowSlots, rowLength, shape, blank, slabsEnd, imageLength, layoutCheck, planCheck, createCheck, slabOf, sound, placedRow}
 use Rattle.laws.specs.Tests.{le-is, and-left, and-right}
 use Rattle.laws.specs.Checks.{each-zero, unless-zero}
+use Rattle.laws.specs.Fresh.{freshOf}
 use Rattle.image_theory.specs.Rows.{slabsEnd-suc}
 use Rattle.image_theory.specs.Checks.{Shape, shape-parts, tier-low, TierOk, tiers-ok, layout-parts, plan-opens, Alike, Like, slabsEnd-like, imageLength-like, layout-like, shape-like, sound-of}
 use Rattle.image_theory.specs.Good.{slabStart, start-suc, head-inside, start-high, Good}
 use Rattle.fresh_theory.specs.FreshSlab.{suits-fresh}
-use Rattle.fresh_theory.specs.ReadBack.{cutRow, made, freshOf, low-back, total-back, zero-back, count-back, schemas-back, row-at-back, slab-at-back, length-back}
+use Rattle.fresh_theory.specs.ReadBack.{cutRow, made, low-back, total-back, zero-back, count-back, schemas-back, row-at-back, slab-at-back, length-back}
 
 -- ---- what creation's check says
 
@@ -76,10 +77,10 @@ slabLength-more : (n m k : ℕ) → k ≤ m → slabLength n k + 4 * (m - k) ≤
 unfolding slabLength columnAt columnBehind stampsBehind directory
 slabLength-more n m k h = omega (arith, mul-le-mul-left n h)
 
-module _ (p tail : List ℕ) (ok : Plan p) where
-  tier-at : (i : ℕ) → i < rowCount p → TierOk (rowAt p i)
-  tier-at = tiers-ok p (ok .shape-is) (ok .layout-is)
+pub plan-tier : (p : List ℕ) → Plan p → (i : ℕ) → i < rowCount p → TierOk (rowAt p i)
+plan-tier p ok = tiers-ok p (ok .shape-is) (ok .layout-is)
 
+module _ (p tail : List ℕ) (ok : Plan p) where
   small : imageLength p ≤ 2 ^ 40
   small = layout-parts p (ok .layout-is) .1
 
@@ -87,7 +88,7 @@ module _ (p tail : List ℕ) (ok : Plan p) where
   pub row-fresh : (i : ℕ) → i < rowCount p → Placed (rowAt (made p tail) i) (rowAt p i) (slabStart p i)
   row-fresh i l =
       let s = ok .shape-is in
-      let t = tier-at i l in
+      let t = plan-tier p ok i l in
       subst (λ (q : Row). Placed q (rowAt p i) (slabStart p i)) (sym (row-at-back p tail (s .long) i l))
       (placed-cut (rowAt p i) (slabStart p i) (omega (arith, s .schema-low i l, s .few-schemas)) (omega (arith, tier-low p s i l, s .few-rows))
       (omega (arith, t .interval-low)) (omega (arith, t .retention-low)) (omega (arith, s .function-low i l)) (omega (arith, start-high p i l, small))
@@ -196,7 +197,7 @@ module _ (p tail : List ℕ) (ok : Plan p) where
         sound-fresh : (i : ℕ) → i < rowCount p → sound (rowAt (made p tail) i) (freshOf (rowAt p i)) ≡ true
         sound-fresh i l =
             let r = rowAt p i in
-            let t = tier-at i l in
+            let t = plan-tier p ok i l in
             sound-of (rowAt (made p tail) i) (freshOf r)
             (suits-fresh (r .hash) (rowSlots r) (r .series) (r .interval) (omega (arith, t .few-slots)) (low i l) (omega (arith, t .interval-low)) (rowAt (made p tail) i)
             (row-fresh i l .hash-is) (slots-fresh i l) (alike i l .series-is) (row-fresh i l .interval-is) (t .some-slots))

@@ -1,4 +1,4 @@
--- A fresh slab: its length, its header's fields, cursor 0, every stamp 0, every cell the fresh value; so it suits its row, and it is a ring that took
+-- A fresh slab: its header's fields, cursor 0, every stamp 0, every cell the fresh value; so it suits its row, and it is a ring that took
 -- nothing. Creation makes every slab so, and the theorem about lists of calls starts from there. Assumes nothing.
 use Prim.Native.Nat.{ℕ, _+_, _*_, _%_, _^_, _<_}
 use native.Mathlib.Nat.{mul-le-mul-left, mod-eq-of-lt}
@@ -7,16 +7,17 @@ use mathlib.Core.Path.{_≡_, refl, sym, ap, _∙_}
 use mathlib.Core.Bool.{false}
 use mathlib.Core.List.{List, [], _∷_, _++_, append-assoc, append-nil}
 use lib.Dec.{lit<}
-use lib.ListN.{length, replicate, length-append, length-replicate}
+use lib.ListN.{replicate, length-replicate}
 use Rattle.model.specs.declared.Row.{Row}
 use Rattle.model.specs.Bytes.{le, bytes, part, get, u32, u64}
-use Rattle.model.specs.Layout.{directory, stampsBehind, columnBehind, stampsAt, columnAt, slabLength, copies, freshValue, freshHead, freshSlab}
+use Rattle.model.specs.Layout.{directory, stampsBehind, columnBehind, stampsAt, columnAt, copies, freshValue, freshHead, freshSlab}
 use Rattle.model.specs.Image.{rowSlots, sound}
 use Rattle.model.specs.Ring.{slots, series, interval, cursor, stampAt, cellAt, stamp, cell}
 use Rattle.laws.specs.Bytes.{length-bytes, le-bytes}
+use Rattle.laws.specs.Fresh.{length-head, length-fresh}
 use Rattle.ring_theory.specs.Hold.{Blank}
 use Rattle.image_theory.specs.Checks.{Suits}
-use Rattle.fresh_theory.specs.Fields.{Field, fields, placeOf, fieldAt, IsField, get-field, get-skip, get-zeros, length-copies, part-copies}
+use Rattle.fresh_theory.specs.Fields.{Field, fields, placeOf, fieldAt, IsField, get-field, get-skip, get-zeros, part-copies}
 
 headFields : ℕ → ℕ → ℕ → ℕ → List Field
 headFields h n m d =
@@ -26,10 +27,6 @@ headFields h n m d =
 head-fields : (h n m d : ℕ) → freshHead h n m d ≡ fields (headFields h n m d)
 unfolding freshHead fields headFields bytes
 head-fields h n m d = refl
-
-length-head : (h n m d : ℕ) → length (freshHead h n m d) ≡ 64
-unfolding freshHead bytes
-length-head h n m d = refl
 
 module _ (h n m d : ℕ) where
   cells : List ℕ
@@ -41,10 +38,6 @@ module _ (h n m d : ℕ) where
   fresh-is : freshSlab h n m d ≡ freshHead h n m d ++ body
   unfolding freshSlab body cells
   fresh-is = simp append-assoc
-
-  pub length-fresh : length (freshSlab h n m d) ≡ slabLength n m
-  unfolding freshSlab slabLength columnAt columnBehind stampsBehind
-  length-fresh = simp (length-append, length-head, length-replicate, length-copies, length-bytes) (omega arith)
 
   -- field k of the header
   field : (k : ℕ) → k < 8 → IsField (freshSlab h n m d) (placeOf (headFields h n m d) k) (fieldAt (headFields h n m d) k)
@@ -131,7 +124,7 @@ module _ (h n m d : ℕ) where
     blank-fresh zn zd = record {
       slab-is = record {
         sound = record {
-          whole = length-fresh;
+          whole = length-fresh h n m d;
           slots-is = fresh-slots;
           series-is = fresh-series;
           interval-is = fresh-interval;

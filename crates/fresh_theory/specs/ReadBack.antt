@@ -1,6 +1,6 @@
 -- The fresh image of a plan, read back: each row is the plan's row with its slab's place, each field cut to its width; each row's slab is a fresh one.
 -- Nothing is supposed of the plan but its length, so numbers too large for their fields are let in. Assumes nothing.
-use Prim.Native.Nat.{ℕ, zero, suc, _+_, _*_, _%_, _^_, _≤_, _<_}
+use Prim.Native.Nat.{ℕ, zero, suc, _+_, _%_, _^_, _≤_, _<_}
 use native.Mathlib.Nat.{add-zero, zero-add}
 use native.Mathlib.Omega.{arith}
 use mathlib.Core.Path.{_≡_, refl, sym, ap, _∙_}
@@ -9,13 +9,12 @@ use lib.ListN.{length, take, length-append}
 use lib.Seq.{length-take-le}
 use Rattle.model.specs.declared.Row.{Row}
 use Rattle.model.specs.Bytes.{bytes, part, get, u64}
-use Rattle.model.specs.Layout.{freshSlab}
-use Rattle.model.specs.Image.{schemas, rowCount, totalLength, rowPlace, markAt, rowAt, rowsFrom, rows, rowSlots, rowLength, slabsEnd, imageLength, placedRow, placedRows, rowBytes, allRows, freshSlabs, freshImage}
+use Rattle.model.specs.Image.{schemas, rowCount, totalLength, rowPlace, markAt, rowAt, rowsFrom, rows, rowLength, slabsEnd, imageLength, placedRow, placedRows, rowBytes, allRows, freshSlabs, freshImage}
 use Rattle.laws.specs.Bytes.{get-part}
+use Rattle.laws.specs.Fresh.{freshOf, length-freshOf, length-slabs, length-row, length-rows}
 use Rattle.image_theory.specs.Rows.{length-rowsFrom}
 use Rattle.image_theory.specs.Good.{slabStart}
 use Rattle.fresh_theory.specs.Fields.{Field, fields, placeOf, fieldAt, IsField, get-field, part-skip, part-here, get-skip, get-front}
-use Rattle.fresh_theory.specs.FreshSlab.{length-fresh}
 
 -- a row with each field cut to its width
 unfoldable pub cutRow : Row → Row
@@ -36,10 +35,6 @@ cutRow r = record {
 abbrev pub made : List ℕ → List ℕ → List ℕ
 made p tail = freshImage p ++ tail
 
--- the fresh slab of a row
-abbrev pub freshOf : Row → List ℕ
-freshOf r = freshSlab (r .hash) (rowSlots r) (r .series) (r .interval)
-
 -- ---- one row
 
 rowFields : Row → List Field
@@ -52,10 +47,6 @@ rowFields r =
 row-fields : (r : Row) → rowBytes r ≡ fields (rowFields r)
 unfolding rowBytes fields rowFields bytes
 row-fields r = refl
-
-length-rowBytes : (r : Row) → length (rowBytes r) ≡ 64
-unfolding rowBytes bytes
-length-rowBytes r = refl
 
 row-back : (pre : List ℕ) (r : Row) (rest : List ℕ) (i : ℕ) → length pre ≡ rowPlace i → rowAt (pre ++ (rowBytes r ++ rest)) i ≡ cutRow r
 unfolding rowAt markAt cutRow rowFields fieldAt placeOf
@@ -80,12 +71,6 @@ row-back pre r rest i e =
 
 -- ---- all rows
 
-length-allRows : (at : ℕ) (rs : List Row) → length (allRows (placedRows at rs)) ≡ 64 * length rs
-unfolding allRows placedRows
-length-allRows at [] = refl
-length-allRows at (r ∷ rs) = length-append (rowBytes (placedRow r at)) (allRows (placedRows (at + rowLength r) rs))
-    ∙ rw (length-rowBytes (placedRow r at), length-allRows (at + rowLength r) rs) (omega arith)
-
 rows-back : (p pre rest : List ℕ) (at i k : ℕ) → length pre ≡ rowPlace i → (j : ℕ) → j < k
     → rowAt (pre ++ (allRows (placedRows at (rowsFrom p i k)) ++ rest)) (i + j) ≡ cutRow (placedRow (rowAt p (i + j)) (slabsEnd at (rowsFrom p i j)))
 unfolding rowsFrom placedRows allRows slabsEnd
@@ -99,7 +84,7 @@ rows-back p pre rest at i (suc k) e (suc j) l =
     let more = allRows (placedRows (at + rowLength (rowAt p i)) (rowsFrom p (suc i) k)) in
     let n : i + suc j ≡ suc i + j = omega arith in
     rw (n, append-assoc (rowBytes q) more rest, ← append-assoc pre (rowBytes q) (more ++ rest))
-    (rows-back p (pre ++ rowBytes q) rest (at + rowLength (rowAt p i)) (suc i) k (longer (length-append pre (rowBytes q)) (length-rowBytes q)) j (omega arith))
+    (rows-back p (pre ++ rowBytes q) rest (at + rowLength (rowAt p i)) (suc i) k (longer (length-append pre (rowBytes q)) (length-row q)) j (omega arith))
   where
     next : rowPlace i + 64 ≡ rowPlace (suc i)
     next = unfold rowPlace in (omega arith)
@@ -108,15 +93,6 @@ rows-back p pre rest at i (suc k) e (suc j) l =
     longer f g = omega (arith, next)
 
 -- ---- the slabs
-
-length-freshOf : (r : Row) → length (freshOf r) ≡ rowLength r
-unfolding rowLength
-length-freshOf r = length-fresh (r .hash) (rowSlots r) (r .series) (r .interval)
-
-length-slabs : (at : ℕ) (rs : List Row) → at + length (freshSlabs rs) ≡ slabsEnd at rs
-unfolding freshSlabs slabsEnd
-length-slabs at [] = add-zero at
-length-slabs at (r ∷ rs) = omega (arith, length-append (freshOf r) (freshSlabs rs), length-freshOf r, length-slabs (at + rowLength r) rs)
 
 slabs-back : (p pre rest : List ℕ) (at i k : ℕ) → length pre ≡ at → (j : ℕ) → j < k
     → part (pre ++ (freshSlabs (rowsFrom p i k) ++ rest)) (slabsEnd at (rowsFrom p i j)) (rowLength (rowAt p (i + j))) ≡ freshOf (rowAt p (i + j))
@@ -172,7 +148,7 @@ module _ (p tail : List ℕ) (long : 32 ≤ length p) where
   unfolding front rowPlace rows
   length-front =
       length-append header (allRows (placedRows (rowPlace (rowCount p)) (rowsFrom p 0 (rowCount p))))
-      ∙ rw (length-header, length-allRows (rowPlace (rowCount p)) (rowsFrom p 0 (rowCount p)), length-rowsFrom p 0 (rowCount p))
+      ∙ rw (length-header, length-rows (rowPlace (rowCount p)) (rowsFrom p 0 (rowCount p)), length-rowsFrom p 0 (rowCount p))
 
   sixteen : length (take 16 p) ≡ 16
   sixteen = length-take-le 16 p (omega arith)

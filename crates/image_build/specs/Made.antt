@@ -1,22 +1,22 @@
--- The fresh image, part behind part: a row's bytes, the rows, the slabs, the whole, and their lengths. Assumes nothing.
+-- The fresh image, part behind part: a row's bytes, the rows, the slabs, the whole. Assumes nothing.
 use Prim.Native.Nat.{ℕ, suc, _+_, _*_, _-_, _≤_, _<_}
 use native.Mathlib.Nat.{sub-zero}
 use native.Mathlib.Numerals.{add-one}
 use native.Mathlib.Omega.{arith}
 use mathlib.Core.Path.{_≡_, refl, sym, ap, _∙_}
-use mathlib.Core.List.{List, [], _∷_, _++_}
+use mathlib.Core.List.{List, _++_}
 use lib.ListN.{length, take, drop, set, getD, replicate, length-append, length-replicate}
 use lib.Seq.{drop-cons, length-take-le}
 use Rattle.model.specs.declared.Row.{Row}
 use Rattle.model.specs.Bytes.{bytes, part, splice, put, get}
-use Rattle.model.specs.Layout.{freshSlab}
-use Rattle.model.specs.Image.{rowCount, rowPlace, rowAt, rowSlots, rowLength, rowBytes, placedRow, placedRows, allRows, slabsEnd, imageLength, freshSlabs, freshImage}
+use Rattle.model.specs.Image.{rowCount, rowPlace, rowAt, rowLength, rowBytes, placedRow, placedRows, allRows, slabsEnd, imageLength, freshSlabs, freshImage}
 use borrow.Rule.Slice.PartMut.{putMid}
 use Rattle.laws.specs.Bytes.{splice-nil, splice-cons, splice-append, splice-front, splice-whole, length-bytes, length-splice, length-part, lent-splice}
+use Rattle.laws.specs.Fresh.{freshOf, length-freshOf, length-slabs, length-row, length-rows}
 use Rattle.image_theory.specs.Rows.{length-rowsFrom}
 use Rattle.rows.specs.Rows.{rowsTo, rows-all, rows-step, rows-end}
 use Rattle.layout.specs.Ends.{capped, ends-more}
-use Rattle.slab.specs.Fresh.{put-splice, Front, front-none, front-field, front-part, length-fresh}
+use Rattle.slab.specs.Fresh.{put-splice, Front, front-none, front-field, front-part}
 
 -- ---- a row
 
@@ -24,10 +24,6 @@ module _ (r : Row) where
   -- the first five fields
   abbrev low : List ℕ
   low = bytes 4 (r .schema) ++ bytes 4 (r .tier) ++ bytes 8 (r .interval) ++ bytes 8 (r .retention) ++ bytes 4 (r .function)
-
-  pub length-row : length (rowBytes r) ≡ 64
-  unfolding rowBytes
-  length-row = simp (length-append, length-bytes)
 
   pub low-made : (s : List ℕ) {x1 x2 x3 x4 x5 : List ℕ} → x1 ≡ put 4 s 0 (r .schema) → x2 ≡ put 4 x1 4 (r .tier) → x3 ≡ put 8 x2 8 (r .interval)
       → x4 ≡ put 8 x3 16 (r .retention) → x5 ≡ put 4 x4 24 (r .function) → x5 ≡ splice s 0 low
@@ -47,7 +43,7 @@ module _ (r : Row) where
       let to-offset = front-field 8 (r .offset) to-series e7 in
       let to-len = front-field 8 (r .len) to-offset e8 in
       let to-mark = front-field 8 (r .mark) to-len e9 in
-      front-field 8 (r .hash) to-mark e10 .is ∙ splice-whole s (rowBytes r) (length-row ∙ sym h)
+      front-field 8 (r .hash) to-mark e10 .is ∙ splice-whole s (rowBytes r) (length-row r ∙ sym h)
 
 -- ---- a part lent as `&mut im[a..a + k]`
 
@@ -88,13 +84,6 @@ rows-none p n i im o at h = rw (rows-end p n i h) (splice-nil im o)
 
 -- ---- the slabs, one behind the other
 
-abbrev pub freshOf : Row → List ℕ
-freshOf r = freshSlab (r .hash) (rowSlots r) (r .series) (r .interval)
-
-pub length-freshOf : (r : Row) → length (freshOf r) ≡ rowLength r
-unfolding rowLength
-length-freshOf r = length-fresh (r .hash) (rowSlots r) (r .series) (r .interval)
-
 slabs-on : (p : List ℕ) (n i : ℕ) → i < n → (im : List ℕ) (at : ℕ)
     → splice (splice im at (freshOf (rowAt p i))) (at + rowLength (rowAt p i)) (freshSlabs (rowsTo p n (i + 1))) ≡ splice im at (freshSlabs (rowsTo p n i))
 unfolding freshSlabs
@@ -133,17 +122,6 @@ copy-end s p i h = let e : 16 - i ≡ 0 = omega arith in rw e (splice-nil s i)
 
 -- ---- the whole
 
-rows-long : (at : ℕ) (rs : List Row) → length (allRows (placedRows at rs)) ≡ 64 * length rs
-unfolding allRows placedRows
-rows-long at [] = refl
-rows-long at (r ∷ rs) =
-    omega (arith, length-append (rowBytes (placedRow r at)) (allRows (placedRows (at + rowLength r) rs)), length-row (placedRow r at), rows-long (at + rowLength r) rs)
-
-slabs-long : (at : ℕ) (rs : List Row) → at + length (freshSlabs rs) ≡ slabsEnd at rs
-unfolding freshSlabs slabsEnd
-slabs-long at [] = omega arith
-slabs-long at (r ∷ rs) = omega (arith, length-append (freshOf r) (freshSlabs rs), length-freshOf r, slabs-long (at + rowLength r) rs)
-
 module _ (p s : List ℕ) (fits : 32 ≤ length p) where
   abbrev N : ℕ
   N = get 4 p 12
@@ -171,10 +149,10 @@ module _ (p s : List ℕ) (fits : 32 ≤ length p) where
   head-long = length-take-le 16 p (omega arith)
 
   placed-long : length placed ≡ 64 * N
-  placed-long = rows-long (32 + 64 * N) R ∙ rw count
+  placed-long = length-rows (32 + 64 * N) R ∙ rw count
 
   parts-long : length parts ≡ imageLength p
-  parts-long = simp (length-append, length-bytes, length-replicate, head-long, placed-long) (omega (arith, slabs-long (32 + 64 * N) R, ends))
+  parts-long = simp (length-append, length-bytes, length-replicate, head-long, placed-long) (omega (arith, length-slabs (32 + 64 * N) R, ends))
 
   fresh-is : parts ≡ freshImage p
   unfolding freshImage rowPlace rowCount

@@ -1,14 +1,14 @@
--- A fresh slab as it is written, part behind part, and its length. Assumes nothing.
-use Prim.Native.Nat.{ℕ, zero, suc, _+_, _*_, _-_, _≤_, _<_}
-use native.Mathlib.Nat.{mul-assoc, zero-mul, suc-mul}
+-- A fresh slab as it is written, part behind part. Assumes nothing.
+use Prim.Native.Nat.{ℕ, suc, _+_, _*_, _-_, _≤_, _<_}
 use native.Mathlib.Numerals.{add-one}
 use native.Mathlib.Omega.{arith}
 use mathlib.Core.Path.{_≡_, refl, sym, ap, _∙_}
 use mathlib.Core.List.{List, [], _∷_, _++_}
 use lib.ListN.{length, set, replicate, length-append, length-replicate}
 use Rattle.model.specs.Bytes.{bytes, splice, put}
-use Rattle.model.specs.Layout.{stampsAt, stampsBehind, slabLength, columnAt, columnBehind, directory, freshHead, freshSlab, copies, freshValue}
+use Rattle.model.specs.Layout.{stampsAt, stampsBehind, slabLength, directory, freshHead, freshSlab, copies, freshValue}
 use Rattle.laws.specs.Bytes.{splice-nil, splice-cons, splice-append, splice-whole, grow, length-bytes}
+use Rattle.laws.specs.Fresh.{length-head, length-fresh}
 
 -- ---- fills, one turn
 
@@ -36,11 +36,6 @@ pub cells-end : (s : List ℕ) (at left : ℕ) → left ≤ 0 → splice s at (c
 unfolding copies
 cells-end s at left h = let e : left ≡ 0 = omega arith in rw e (splice-nil s at)
 
-length-copies : (k : ℕ) (xs : List ℕ) → length (copies k xs) ≡ k * length xs
-unfolding copies
-length-copies zero xs = sym (zero-mul _)
-length-copies (suc k) xs = length-append xs (copies k xs) ∙ omega (arith, length-copies k xs, suc-mul k (length xs))
-
 -- ---- the parts of a fresh slab
 
 -- t is s with xs put at its front: k bytes
@@ -59,10 +54,6 @@ pub front-field : {s t u xs : List ℕ} {k : ℕ} (w x : ℕ) → Front s t xs k
 front-field w x f e = front-part (bytes w x) f (length-bytes w x) (e ∙ put-splice w _ _ x)
 
 module _ (hash n m interval : ℕ) where
-  length-head : length (freshHead hash n m interval) ≡ 64
-  unfolding freshHead
-  length-head = simp (length-append, length-bytes, length-replicate)
-
   -- the header, field behind field
   pub head-made : (s : List ℕ) {x1 x2 x3 x4 x5 x6 x7 : List ℕ} → x1 ≡ put 4 s 0 0x4f444e52 → x2 ≡ put 4 x1 4 1 → x3 ≡ put 8 x2 8 hash → x4 ≡ put 4 x3 16 n
       → x5 ≡ put 4 x4 20 m → x6 ≡ put 8 x5 24 interval → x7 ≡ splice x6 32 (replicate 32 0) → x7 ≡ splice s 0 (freshHead hash n m interval)
@@ -77,19 +68,15 @@ module _ (hash n m interval : ℕ) where
       magic : {x : List ℕ} → x ≡ put 4 s 0 0x4f444e52 → Front s x (0x52 ∷ 0x4e ∷ 0x44 ∷ 0x4f ∷ []) 4
       magic e = unfold bytes in (front-field 4 0x4f444e52 (front-none s) e)
 
-  pub length-fresh : length (freshSlab hash n m interval) ≡ slabLength n m
-  unfolding freshSlab slabLength columnAt columnBehind stampsBehind directory
-  length-fresh = simp (length-append, length-head, length-replicate, length-copies, length-bytes) (omega (arith, mul-assoc 8 n m))
-
   -- the slab, part behind part; the stamps stand at k
   pub slab-made : (s : List ℕ) {x7 x8 x9 x10 : List ℕ} {k : ℕ} → length s ≡ slabLength n m → k ≡ stampsAt m → x7 ≡ splice s 0 (freshHead hash n m interval)
       → x8 ≡ splice x7 64 (replicate (k - 64) 255) → x9 ≡ splice x8 k (replicate (k + 8 * n - k) 0) → x10 ≡ splice x9 (k + 8 * n) (copies (n * m) (bytes 8 freshValue))
       → x10 ≡ freshSlab hash n m interval
   unfolding freshSlab directory stampsAt stampsBehind
   slab-made s h e e7 e8 e9 e10 =
-      let head : Front s _ (freshHead hash n m interval) 64 = record { is = e7; long = length-head } in
+      let head : Front s _ (freshHead hash n m interval) 64 = record { is = e7; long = length-head hash n m interval } in
       let a : 64 + 4 * m - 64 ≡ 4 * m = omega arith in
       let b : 64 + 4 * m + 8 * n - (64 + 4 * m) ≡ 8 * n = omega arith in
       let entries = front-part (replicate (4 * m) 255) head (length-replicate {A = ℕ} (4 * m) 255) (rw (e, a) at e8) in
       let stamps = front-part (replicate (8 * n) 0) entries (length-replicate {A = ℕ} (8 * n) 0) (rw (e, b) at e9) in
-      front-part (copies (n * m) (bytes 8 freshValue)) stamps refl (rw e at e10) .is ∙ splice-whole s (freshSlab hash n m interval) (length-fresh ∙ sym h)
+      front-part (copies (n * m) (bytes 8 freshValue)) stamps refl (rw e at e10) .is ∙ splice-whole s (freshSlab hash n m interval) (length-fresh hash n m interval ∙ sym h)

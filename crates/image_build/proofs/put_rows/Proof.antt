@@ -10,7 +10,8 @@ use Rattle.model.specs.Bytes.{splice}
 use Rattle.model.specs.Image.{rowAt, rowLength, rowBytes, placedRow, placedRows, allRows, slabsEnd}
 use Rattle.rows.specs.Rows.{rowsTo}
 use Rattle.layout.specs.Ends.{ends-on, ends-more}
-use Rattle.image_build.specs.Made.{lent-long, lent-kept, rows-turn, rows-none, length-row}
+use Rattle.laws.specs.Fresh.{length-row}
+use Rattle.image_build.specs.Made.{lent-long, lent-kept, rows-turn, rows-none}
 use Rattle.image_build.proofs.put_rows.Statement.{statement}
 use Rattle.image_build.proofs.put_rows.Tie as tie
 

@@ -11,7 +11,8 @@ use Rattle.model.specs.Layout.{slabLength}
 use Rattle.model.specs.Image.{rowAt, rowLength, freshSlabs, slabsEnd}
 use Rattle.rows.specs.Rows.{rowsTo}
 use Rattle.layout.specs.Ends.{ends-on}
-use Rattle.image_build.specs.Made.{lent-long, lent-kept, slabs-fit, slabs-turn, slabs-none, freshOf, length-freshOf}
+use Rattle.laws.specs.Fresh.{freshOf, length-freshOf}
+use Rattle.image_build.specs.Made.{lent-long, lent-kept, slabs-fit, slabs-turn, slabs-none}
 use Rattle.image_build.proofs.put_slabs.Statement.{statement}
 use Rattle.image_build.proofs.put_slabs.Tie as tie
 
