@@ -3,8 +3,8 @@ use Prim.Native.Nat.{ℕ, suc, _+_, _-_, _*_, _/_, _%_, _^_, _≤_, _<_}
 use native.Mathlib.Nat.{mul-assoc, mul-suc, mul-le-mul}
 use native.Mathlib.Numerals.{add-one}
 use native.Mathlib.Omega.{arith}
-use mathlib.Core.Path.{_≡_, refl, sym, _∙_}
-use mathlib.Core.Bool.{Bool, true, false, not, _&&_, cond}
+use mathlib.Core.Path.{_≡_, sym, _∙_}
+use mathlib.Core.Bool.{Bool, true, false, not, _&&_, cond, and-false}
 use mathlib.Core.List.{List}
 use lib.Dec.{leb, ltb}
 use lib.ListN.{length}
@@ -13,7 +13,7 @@ use Rattle.model.specs.declared.Stepped.{Stepped}
 use Rattle.model.specs.declared.Next.the-variants.{Handed, Finished}
 use Rattle.model.specs.Bytes.{get}
 use Rattle.model.specs.Layout.{slabLength, stampsAt, columnAt, columnBehind, stampsBehind, directory}
-use Rattle.model.specs.Ring.{slots, series, stampAt, cellAt, stamp, cell, isNaN}
+use Rattle.model.specs.Ring.{slots, series, stamp, cell, isNaN}
 use Rattle.model.specs.Read.{isHanded, stepped, handed, stepFrom, readable}
 use Rattle.laws.specs.Tests.{yes-le, yes-lt, no-le, no-lt, split3, and-left, and-right, le-is, lt-is}
 use Rattle.reader.specs.Held.{Held}
@@ -80,17 +80,6 @@ module _ (s : List ℕ) (c : ℕ) (p : Place) (h : readable s c p ≡ true) wher
       let w = le-is (slabLength (slots s) (series s)) (length s) (and-right (leb 64 (length s)) (leb (slabLength (slots s) (series s)) (length s)) (parts .0)) in
       (record { whole = rw (sl, se) at w; slots-is = sl; series-is = se }, rw se at (lt-is c (series s) (parts .1)), rw sl at (lt-is (p .slot) (slots s) (parts .2)))
 
--- ---- stamps and cells at the places that the code works out
-
-module _ (s : List ℕ) {n m : ℕ} (h : Held s n m) where
-  pub stamp-is : (i : ℕ) → get 8 s (stampsAt m + 8 * i) ≡ stamp s i
-  unfolding stamp stampAt
-  stamp-is i = rw (h .series-is)
-
-  pub cell-is : (c i : ℕ) → get 8 s (columnAt n m c + 8 * i) ≡ cell s c i
-  unfolding cell cellAt
-  cell-is c i = rw (h .slots-is, h .series-is)
-
 -- ---- one turn
 
 -- slot i, with k left, where a step gives x; t is its stamp, j the next slot
@@ -118,11 +107,7 @@ module _ {s : List ℕ} {c start end n m i k : ℕ} {x : Stepped} {t j : ℕ} (h
 
   pub skip-late : end ≤ t → stepFrom s c start end j (k - 1) ≡ x
   unfolding isHanded
-  skip-late l = skipped (rw (← h .stamp-is, no-lt t end l) (go (leb start t)))
-    where
-      go : (y : Bool) → y && false && not (isNaN (cell s c i)) ≡ false
-      go true = refl
-      go false = refl
+  skip-late l = skipped (rw (← h .stamp-is, no-lt t end l, and-false (leb start t)))
 
   module _ (from : start ≤ t) (to : t < end) {v : ℕ} (v-is : v ≡ cell s c i) {nan : Bool} (nan-is : nan ≡ isNaN v) where
     handed-is : isHanded s c start end i ≡ not nan

@@ -1,5 +1,4 @@
--- The ring's words at the places that the code works out, the next slot by compare and reset, and the place where a reading starts, case by case.
--- Assumes nothing.
+-- The places that the code works out, in cells; the next slot by compare and reset; and the place where a reading starts, case by case. Assumes nothing.
 use Prim.Native.Nat.{ℕ, suc, _+_, _*_, _%_, _≤_, _<_}
 use native.Mathlib.Nat.{mul-suc, mul-assoc, mul-le-mul-left, mod-eq-of-lt, mod-self}
 use native.Mathlib.Numerals.{add-one}
@@ -9,9 +8,7 @@ use mathlib.Core.Logic.{_≢_}
 use mathlib.Core.Bool.{Bool, true, false}
 use mathlib.Core.List.{List}
 use borrow.Author.Tests.{eq-eqb, ne-eqb}
-use Rattle.model.specs.Bytes.{get}
-use Rattle.model.specs.Layout.{stampsAt, columnAt}
-use Rattle.model.specs.Ring.{cursor, stampAt, cellAt, stamp, cell, isEmpty, firstPlace}
+use Rattle.model.specs.Ring.{cursor, stamp, isEmpty, firstPlace}
 use Rattle.ring.specs.Parts.{Sized, ringOf}
 
 -- column c's k bytes end where the next column's begin
@@ -35,32 +32,15 @@ next-in n i h = let e : suc i < n = omega arith in omega (arith, mod-eq-of-lt e)
 pub next-round : (n i : ℕ) → i < n → n ≤ i + 1 → 0 ≡ suc i % n
 next-round n i h k = let e : suc i ≡ n = omega arith in rw e (sym (mod-self n))
 
-module _ (s : List ℕ) (n m : ℕ) (h : Sized s n m) where
-  pub stamp-place : (i : ℕ) → stampAt s i ≡ stampsAt m + 8 * i
-  unfolding stampAt
-  stamp-place i = rw (h .series-is)
+module _ (s : List ℕ) (n m : ℕ) (h : Sized s n m) (w : Bool) where
+  pub first-none : stamp s (cursor s) ≡ 0 → firstPlace (ringOf s w) ≡ record { slot = 0; left = 0 }
+  unfolding firstPlace isEmpty
+  first-none e = rw (eq-eqb _ _ e)
 
-  pub cell-place : (c i : ℕ) → cellAt s c i ≡ columnAt n m c + 8 * i
-  unfolding cellAt
-  cell-place c i = rw (h .slots-is, h .series-is)
+  pub first-round : w ≡ true → stamp s (cursor s) ≢ 0 → firstPlace (ringOf s w) ≡ record { slot = suc (cursor s) % n; left = n }
+  unfolding firstPlace isEmpty
+  first-round t e = rw (ne-eqb _ _ e, t, h .slots-is)
 
-  pub stamp-is : (i : ℕ) → get 8 s (stampsAt m + 8 * i) ≡ stamp s i
-  unfolding stamp
-  stamp-is i = rw (stamp-place i)
-
-  pub cell-is : (c i : ℕ) → get 8 s (columnAt n m c + 8 * i) ≡ cell s c i
-  unfolding cell
-  cell-is c i = rw (cell-place c i)
-
-  module _ (w : Bool) where
-    pub first-none : stamp s (cursor s) ≡ 0 → firstPlace (ringOf s w) ≡ record { slot = 0; left = 0 }
-    unfolding firstPlace isEmpty
-    first-none e = rw (eq-eqb _ _ e)
-
-    pub first-round : w ≡ true → stamp s (cursor s) ≢ 0 → firstPlace (ringOf s w) ≡ record { slot = suc (cursor s) % n; left = n }
-    unfolding firstPlace isEmpty
-    first-round t e = rw (ne-eqb _ _ e, t, h .slots-is)
-
-    pub first-plain : w ≡ false → stamp s (cursor s) ≢ 0 → firstPlace (ringOf s w) ≡ record { slot = 0; left = cursor s + 1 }
-    unfolding firstPlace isEmpty
-    first-plain t e = rw (ne-eqb _ _ e, t, add-one)
+  pub first-plain : w ≡ false → stamp s (cursor s) ≢ 0 → firstPlace (ringOf s w) ≡ record { slot = 0; left = cursor s + 1 }
+  unfolding firstPlace isEmpty
+  first-plain t e = rw (ne-eqb _ _ e, t, add-one)

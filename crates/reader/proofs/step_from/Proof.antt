@@ -7,7 +7,8 @@ use Rattle.model.specs.declared.Stepped.{Stepped}
 use Rattle.model.specs.Bytes.{get}
 use Rattle.model.specs.Ring.{stamp, cell}
 use Rattle.model.specs.Read.{stepFrom, stepped}
-use Rattle.reader.proofs.Laws.{stamp-is, cell-is, Turn, skip-early, skip-late, skip-nan, hand-out, finished}
+use Rattle.laws.specs.Slab.{stamp-is, cell-is}
+use Rattle.reader.proofs.Laws.{Turn, skip-early, skip-late, skip-nan, hand-out, finished}
 use borrow.Author.Needs.{needs}
 use Rattle.reader.proofs.step_from.Statement.{statement}
 use Rattle.reader.proofs.step_from.Tie as tie
@@ -37,7 +38,7 @@ abbrev slot : tie.After-next-slot Inv-loop μ-loop → ℕ
 slot k = head k .loop .slot
 
 stamp-read : (k : tie.After-next-slot Inv-loop μ-loop) → k .before .get-u64 .result ≡ stamp (slice k) (slot k)
-stamp-read k = k .before .get-u64 .ensures ∙ ap (get 8 (slice k)) (k .before .before .stamp-place .ensures .0) ∙ stamp-is (slice k) (start k .pre .0) (slot k)
+stamp-read k = k .before .get-u64 .ensures ∙ ap (get 8 (slice k)) (k .before .before .stamp-place .ensures .0) ∙ stamp-is (slice k) (start k .pre .0 .series-is) (slot k)
 
 -- the step from the function's own place on
 abbrev whole : tie.After-next-slot Inv-loop μ-loop → Stepped
@@ -61,7 +62,7 @@ stamped d = d .before .before .before .before .before
 cell-read : (d : tie.After-is-nan Inv-loop μ-loop) → d .before .get-u642 .result ≡ cell (slice (stamped d)) (start (stamped d) .args .column) (slot (stamped d))
 cell-read d =
     let k = stamped d in
-    d .before .get-u642 .ensures ∙ ap (get 8 (slice k)) (d .before .before .cell-place .ensures .0) ∙ cell-is (slice k) (start k .pre .0) (start k .args .column) (slot k)
+    d .before .get-u642 .ensures ∙ ap (get 8 (slice k)) (d .before .before .cell-place .ensures .0) ∙ cell-is (slice k) (start k .pre .0 .slots-is) (start k .pre .0 .series-is) (start k .args .column) (slot k)
 
 -- the stamp is in the range
 from : (d : tie.After-is-nan Inv-loop μ-loop) → start (stamped d) .args .start ≤ stamped d .before .get-u64 .result

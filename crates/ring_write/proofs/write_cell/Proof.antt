@@ -2,8 +2,7 @@
 use mathlib.Core.Path.{_≡_}
 use Rattle.model.specs.Bytes.{put}
 use Rattle.model.specs.Ring.{cellAt, putCells}
-use Rattle.laws.specs.Slab.{cellAt-high}
-use Rattle.ring.proofs.Laws.{cell-place}
+use Rattle.laws.specs.Slab.{cell-place, cellAt-high}
 use Rattle.ring_write.proofs.Laws.{sound-put}
 use borrow.Author.Needs.{needs}
 use Rattle.ring_write.proofs.write_cell.Statement.{statement}
@@ -28,7 +27,7 @@ returns c =
     let a = start .args in
     let s = a .slab .now in
     let o = cellAt s (a .column) (a .slot) in
-    let at : at-place c .cell-place .result ≡ o = cc (cell-place s _ _ (start .pre .0) (a .column) (a .slot)) in
+    let at : at-place c .cell-place .result ≡ o = cc (cell-place s (start .pre .0 .slots-is) (start .pre .0 .series-is) (a .column) (a .slot)) in
     let e : c .before .before .put-u64 .last .0 ≡ put 8 s o (a .value) = cc in
     (e, rw e (sound-put (start .pre .0) o (a .value) (cellAt-high s (a .column) (a .slot))))
 

@@ -2,10 +2,9 @@
 use mathlib.Core.Path.{_≡_}
 use Rattle.model.specs.Bytes.{put}
 use Rattle.model.specs.Ring.{stampAt}
-use Rattle.laws.specs.Slab.{stampAt-high}
+use Rattle.laws.specs.Slab.{stamp-place, stampAt-high}
 use Rattle.ring_theory.specs.Sound.{some-slots}
 use Rattle.ring.specs.Parts.{sized}
-use Rattle.ring.proofs.Laws.{stamp-place}
 use Rattle.ring_write.proofs.Laws.{sound-put}
 use borrow.Author.Needs.{needs}
 use Rattle.ring_write.proofs.write_stamp.Statement.{statement}
@@ -46,7 +45,7 @@ returns c =
     let slot = at-slot (at-place c) .slot-of in
     let a = start (at-slot (at-place c)) in
     let s = a .args .slab .now in
-    let at : at-place c .stamp-place .result ≡ stampAt s (slot .result) = cc (stamp-place s _ _ (sized (a .pre .0)) (slot .result)) in
+    let at : at-place c .stamp-place .result ≡ stampAt s (slot .result) = cc (stamp-place s (a .pre .0 .series-is) (slot .result)) in
     let e : c .before .before .put-u64 .last .0 ≡ put 8 s (stampAt s (slot .result)) (a .args .stamp) = cc in
     record {
       slot-is = slot .ensures .0;
