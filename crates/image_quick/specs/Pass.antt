@@ -2,17 +2,16 @@
 -- facts in its own order; the order of the refusals is the plain check's alone. Assumes nothing.
 use Prim.Native.Nat.{ℕ, zero, suc, _+_, _-_, _^_, _≤_, _<_}
 use native.Mathlib.Omega.{arith}
-use mathlib.Core.Path.{_≡_, refl}
+use mathlib.Core.Path.{_≡_, sym}
 use mathlib.Core.Logic.{_⊎_, inl, inr}
-use mathlib.Core.Bool.{Bool, true, false, _&&_, _||_}
+use mathlib.Core.Bool.{true}
 use mathlib.Core.List.{List}
-use lib.Dec.{eqb}
 use lib.ListN.{length}
 use Rattle.model.specs.declared.Row.{Row}
 use Rattle.model.specs.Bytes.{u32, u64}
 use Rattle.model.specs.Image.{unless, first, schemas, rowCount, totalLength, rowPlace, rowAt, rows, rowSlots, rowLength, follows, tierCheck, imageLength, layoutCheck, slabOf, openCheck}
-use Rattle.laws.specs.Tests.{yes-le, yes-lt, yes-eq}
-use Rattle.image_theory.specs.Checks.{Suits, sound-of}
+use Rattle.laws.specs.Tests.{yes-le, yes-lt}
+use Rattle.image_theory.specs.Checks.{follows-of, Suits, sound-of}
 use Rattle.image_theory.specs.Good.{open-good, slabStart}
 use Rattle.image_quick.specs.Chain.{SameSchema, NextSchema, Chain, chain-passes}
 
@@ -80,14 +79,10 @@ tier-passes s i g =
       yes-le (rowSlots r) 1_000_000_000 (g .few-slots),
     )
 
-follows-of : (p q : Row) → Joins p q → follows p q ≡ true
-unfolding follows
-follows-of p q (inl a) = rw (a .schema-is, a .tier-is, a .series-is, a .hash-is, yes-eq (p .schema), yes-eq (suc (p .tier)), yes-eq (p .series), yes-eq (p .hash))
-follows-of p q (inr a) = rw (a .schema-is, yes-lt (p .schema) (suc (p .schema)) (omega arith), a .tier-is) (either (eqb (p .schema) (suc (p .schema)) && eqb (suc (p .tier)) 0 && eqb (p .series) (q .series) && eqb (p .hash) (q .hash)))
-  where
-    either : (b : Bool) → b || true ≡ true
-    either true = refl
-    either false = refl
+follows-join : (p q : Row) → Joins p q → follows p q ≡ true
+follows-join p q (inl a) =
+    follows-of p q (inl (record { same-schema = sym (a .schema-is); next-tier = sym (a .tier-is); same-series = sym (a .series-is); same-hash = sym (a .hash-is) }))
+follows-join p q (inr a) = follows-of p q (inr (record { later = omega (arith, a .schema-is); first-of = a .tier-is }))
 
 module _ (s : List ℕ) (n : ℕ) (p : Pass s n) where
   -- schemas never fall, and the last is the greatest
@@ -129,7 +124,7 @@ module _ (s : List ℕ) (n : ℕ) (p : Pass s n) where
       zero-is = p .zero-is;
       head-fits = p .head-fits;
       first-tier = λ h. p .starts .tier-is;
-      follow = λ i h. follows-of (rowAt s i) (rowAt s (suc i)) (p .joins i h);
+      follow = λ i h. follows-join (rowAt s i) (rowAt s (suc i)) (p .joins i h);
       schema-low = schema-low;
       function-low = λ i h. p .good i h .function-low;
       mark-low = λ i h. p .good i h .mark-low;

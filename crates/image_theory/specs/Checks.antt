@@ -6,7 +6,7 @@ use native.Mathlib.Omega.{arith}
 use native.Mathlib.Decide.{ℕ-discrete}
 use mathlib.Core.Path.{_≡_, refl, sym, ap, _∙_, subst}
 use mathlib.Core.Logic.{_⊎_, inl, inr}
-use mathlib.Core.Bool.{Bool, true, false, _&&_, _||_, false≢true}
+use mathlib.Core.Bool.{Bool, true, false, _&&_, _||_, or-true, false≢true}
 use mathlib.Core.List.{List, [], _∷_}
 use lib.ListN.{length}
 use lib.Dec.{leb, ltb, eqb}
@@ -134,17 +134,13 @@ follows-parts p q h = go (eqb (p .schema) (q .schema) && eqb (suc (p .tier)) (q 
       first-of = eq-is (q .tier) 0 (and-right (ltb (p .schema) (q .schema)) (eqb (q .tier) 0) k);
     })
 
-follows-of : (p q : Row) → NextTier p q ⊎ NextSchema p q → follows p q ≡ true
+pub follows-of : (p q : Row) → NextTier p q ⊎ NextSchema p q → follows p q ≡ true
 unfolding follows
 follows-of p q (inl x) =
     rw (x .same-schema, x .next-tier, x .same-series, x .same-hash, yes-eq (q .schema), yes-eq (q .tier), yes-eq (q .series), yes-eq (q .hash))
 follows-of p q (inr x) =
     rw (x .first-of, yes-lt (p .schema) (q .schema) (x .later))
     (or-true (eqb (p .schema) (q .schema) && eqb (suc (p .tier)) 0 && eqb (p .series) (q .series) && eqb (p .hash) (q .hash)))
-  where
-    or-true : (b : Bool) → b || true ≡ true
-    or-true true = refl
-    or-true false = refl
 
 -- a row may still follow another where schema, tier and max series stay, and hashes that agreed still agree
 follows-keeps : (p q p' q' : Row) → p' .schema ≡ p .schema → q' .schema ≡ q .schema → p' .tier ≡ p .tier → q' .tier ≡ q .tier → p' .series ≡ p .series

@@ -4,13 +4,12 @@ use native.Mathlib.Nat.{mul-add, div-lt-iff-lt-mul, div-zero}
 use native.Mathlib.Decide.{decLt}
 use native.Mathlib.Omega.{arith}
 use mathlib.Core.Path.{_≡_, sym}
-use mathlib.Core.Bool.{Bool, _&&_}
+use mathlib.Core.Bool.{Bool, _&&_, and-assoc, and-true}
 use mathlib.Core.List.{List}
 use lib.Dec.{eqb}
 use Rattle.model.specs.declared.Row.{Row}
 use Rattle.model.specs.Layout.{slabLength, slotCount}
 use Rattle.model.specs.Image.{rowAt, rowSlots, rowLength, slabsEnd, placed}
-use Rattle.rows.specs.Tests.{and-assoc, and-true}
 use Rattle.rows.specs.Rows.{rowsTo, rows-step, rows-end}
 use Rattle.layout.specs.Ends.{capped, long, ends-more}
 

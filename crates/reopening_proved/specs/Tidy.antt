@@ -4,14 +4,13 @@
 use Prim.Native.Nat.{ℕ, suc, _-_, _/_, _%_, _^_, _≤_, _<_}
 use native.Mathlib.Omega.{arith}
 use native.Mathlib.Decide.{ℕ-discrete, decLt}
-use mathlib.Core.Path.{_≡_, refl, sym, ap, _∙_, subst}
-use mathlib.Core.Logic.{_≢_}
-use mathlib.Core.Bool.{Bool, true, false, _||_, true≢false}
+use mathlib.Core.Path.{_≡_, sym, ap, _∙_, subst}
+use mathlib.Core.Bool.{false, true≢false}
 use mathlib.Core.List.{List}
 use lib.Dec.{ltb}
 use Rattle.model.specs.Layout.{freshValue}
 use Rattle.model.specs.Ring.{Ring, ColumnValue, slots, cursor, stamp, cell, slotOf, wrapFlag, write}
-use Rattle.laws.specs.Tests.{yes-lt}
+use Rattle.laws.specs.Tests.{yes-lt, or-none}
 use Rattle.ring_theory.specs.Write.{Elsewhere, flag-is}
 use Rattle.ring_theory.specs.Sound.{Sound, slot-is, cursor-write, elsewhere-sound}
 use Rattle.ring_theory.specs.Hold.{Blank}
@@ -27,11 +26,6 @@ pub tidy-blank : (n m d : ℕ) (r : Ring) → Blank r n m d → ((c i : ℕ) →
 tidy-blank n m d r b f = record { unstamped = λ i c hi hc z. f c i hc hi; above = λ w i lo hi. b .stamps i hi }
 
 -- ---- a write
-
--- neither was set
-or-none : (a b : Bool) → a || b ≡ false → (a ≡ false) × (b ≡ false)
-or-none true b h = absurd (true≢false h)
-or-none false b h = (refl, h)
 
 -- a test that fails
 no-less : (a b : ℕ) → ltb a b ≡ false → b ≤ a

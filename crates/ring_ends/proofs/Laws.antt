@@ -4,11 +4,11 @@ use native.Mathlib.Nat.{mod-eq-of-lt}
 use native.Mathlib.Omega.{arith}
 use mathlib.Core.Path.{_≡_, refl, sym, _∙_}
 use mathlib.Core.Logic.{_≢_}
-use mathlib.Core.Bool.{Bool, true, false, not, _||_, false≢true}
+use mathlib.Core.Bool.{false, not}
 use mathlib.Core.List.{List}
 use lib.Dec.{eqb}
 use borrow.Author.Tests.{not-false}
-use Rattle.laws.specs.Tests.{eq-is}
+use Rattle.laws.specs.Tests.{eq-is, or-none}
 use Rattle.model.specs.declared.End.the-variants.{At}
 use Rattle.model.specs.Ring.{stamp, walk, orStamp, firstStamp, anyStamp, endOf}
 
@@ -16,11 +16,6 @@ pub end-at : (t : ℕ) → t ≢ 0 → At t ≡ endOf t
 unfolding endOf
 end-at zero h = absurd (h refl)
 end-at (suc t) h = refl
-
--- neither of two
-neither : (a b : Bool) → a || b ≡ false → (a ≡ false) × (b ≡ false)
-neither true b e = (e, absurd (false≢true (sym e)))
-neither false b e = (refl, e)
 
 module _ (s : List ℕ) (n i k : ℕ) (some : 0 < k) where
   turn : (j : ℕ) → k ≡ suc j → firstStamp s (walk n i k) ≡ orStamp (stamp s i) (firstStamp s (walk n (suc i % n) j))
@@ -44,11 +39,11 @@ pub stamps-later : (s : List ℕ) (n i k j : ℕ) → anyStamp s i (suc j) ≡ f
     → firstStamp s (walk n i k) ≡ firstStamp s (walk n ((i + suc j) % n) (k - suc j))
 unfolding anyStamp
 stamps-later s n i k zero e fits more =
-    let parts = neither (not (eqb (stamp s i) 0)) false e in
+    let parts = or-none (not (eqb (stamp s i) 0)) false e in
     let one : i + 1 ≡ suc i = omega arith in
     rw one (stamp-later s n i k (omega arith) (eq-is (stamp s i) 0 (not-false (eqb (stamp s i) 0) (parts .0))))
 stamps-later s n i k (suc j) e fits more =
-    let parts = neither (not (eqb (stamp s i) 0)) (anyStamp s (suc i) (suc j)) e in
+    let parts = or-none (not (eqb (stamp s i) 0)) (anyStamp s (suc i) (suc j)) e in
     let low : suc i < n = omega arith in
     let here : suc i % n ≡ suc i = mod-eq-of-lt low in
     let on : suc i + suc j ≡ i + suc (suc j) = omega arith in

@@ -2,7 +2,7 @@
 use Prim.Native.Nat.{ℕ, _+_, _*_, _≤_, _<_}
 use native.Mathlib.Omega.{arith}
 use mathlib.Core.Path.{_≡_, sym, ap, _∙_}
-use mathlib.Core.Bool.{Bool, true, false, _&&_}
+use mathlib.Core.Bool.{Bool, true, false, _&&_, and-assoc, and-true, and-false}
 use mathlib.Core.List.{List}
 use lib.ListN.{length}
 use lib.Dec.{eqb, leb}
@@ -11,7 +11,6 @@ use Rattle.laws.specs.Tests.{le-is, and-right}
 use Rattle.model.specs.declared.Row.{Row}
 use Rattle.model.specs.Bytes.{get}
 use Rattle.model.specs.Image.{rowAt, every, follows, inOrder, orderly, rowShape, header, shape, blank, blankRow, rowPlace, rowCount, totalLength}
-use Rattle.rows.specs.Tests.{and-assoc, and-true, and-false}
 use Rattle.rows.specs.Rows.{rowsTo, rows-step, rows-end, rows-all, goodRows, shape-rest}
 
 -- ---- a test of every row, carried in a bool

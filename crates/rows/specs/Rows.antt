@@ -4,7 +4,7 @@ use native.Mathlib.Nat.{sub-zero}
 use native.Mathlib.Numerals.{add-one}
 use native.Mathlib.Omega.{arith}
 use mathlib.Core.Path.{_≡_}
-use mathlib.Core.Bool.{Bool, true, _&&_}
+use mathlib.Core.Bool.{Bool, true, _&&_, and-assoc}
 use mathlib.Core.List.{List, [], _∷_}
 use lib.ListN.{length}
 use lib.Dec.{leb}
@@ -12,7 +12,6 @@ use Rattle.model.specs.declared.Row.{Row}
 use Rattle.model.specs.Bytes.{get}
 use Rattle.model.specs.Image.{rowAt, rowsFrom, rows, rowCount, schemas, rowPlace, every, orderly, rowShape, header, shape}
 use Rattle.image_theory.specs.Checks.{shape-parts}
-use Rattle.rows.specs.Tests.{and-assoc}
 
 -- the rows of s from row i on, below row n
 unfoldable pub rowsTo : List ℕ → ℕ → ℕ → List Row

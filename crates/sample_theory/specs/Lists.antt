@@ -37,11 +37,7 @@ at-yes x c t e f = rw (e, f, yes-eq c, yes-eq t)
 
 pub at-no-stamp : (x : Sample) (c t : ℕ) → x .stamp ≢ t → isAt c t x ≡ false
 unfolding isAt
-at-no-stamp x c t h = rw (no-eq (x .stamp) t h) (go (eqb (x .column) c))
-  where
-    go : (b : Bool) → b && false ≡ false
-    go true = refl
-    go false = refl
+at-no-stamp x c t h = rw (no-eq (x .stamp) t h) (and-false (eqb (x .column) c))
 
 pub at-no-column : (x : Sample) (c t : ℕ) → x .column ≢ c → isAt c t x ≡ false
 unfolding isAt
