@@ -15,7 +15,7 @@ use Rattle.model.specs.declared.WindowAnswer.{WindowAnswer}
 use Rattle.model.specs.declared.WindowAnswer.the-variants.{Empty, Number, NothingFinite}
 use Rattle.model.specs.Words.{functionNo}
 use Rattle.model.specs.Bytes.{get}
-use Rattle.model.specs.Image.{rowCount, rowSlots}
+use Rattle.model.specs.Image.{rowCount, rowSlots, sound}
 use Rattle.model.specs.Ring.{Ring, ColumnValue, slots, cursor, stamp, endOf, newest}
 use Rattle.model.specs.Window.{Job, windowAnswer}
 use Rattle.model.specs.Lent.{Lent, row, ring, withRing}
@@ -81,7 +81,8 @@ below-at s i (suc k) h j p q =
     go (yes e) here later = subst (λ (j : ℕ). stamp s j < 2 ^ 63) e here
     go (no e) here later = later (omega arith) (omega arith)
 
-end-back : (t : ℕ) → orZero (endOf t) ≡ t
+-- an end's stamp
+pub end-back : (t : ℕ) → orZero (endOf t) ≡ t
 unfolding orZero endOf
 end-back zero = refl
 end-back (suc t) = refl
@@ -90,23 +91,35 @@ pub newest-low : (r : Ring) → cursor (r .slab) < slots (r .slab) → stampsBel
 unfolding newest
 newest-low r l h = rw (end-back (stamp (r .slab) (cursor (r .slab)))) (below-at (r .slab) 0 (slots (r .slab)) h (cursor (r .slab)) (omega arith) (omega arith))
 
-module _ (l : Lent) (g : Good (l .image)) (i : ℕ) (hi : suc i < rowCount (l .image)) where
-  slab-of : (j : ℕ) → j < rowCount (l .image) → Sound (ring l j .slab) (rowSlots (row l j)) (row l j .series) (row l j .interval)
+module _ (l : Lent) (g : Good (l .image)) (i : ℕ) (hi : i < rowCount (l .image)) where
+  pub slab-of : Sound (ring l i .slab) (rowSlots (row l i)) (row l i .series) (row l i .interval)
   unfolding ring row
-  slab-of j h = slab-sound (l .image) g j h
+  slab-of = slab-sound (l .image) g i hi
 
+  pub newest-of : stampsBelow (ring l i .slab) 0 (slots (ring l i .slab)) ≡ true → orZero (newest (ring l i)) < 2 ^ 63
+  newest-of = newest-low (ring l i) (rw (slab-of .slots-is) (slab-of .cursor-in))
+
+  -- the ring, filled: as long as before, and sound
+  module _ (q : Job) (k : ℕ) where
+    grown-filled : Grown (rowSlots (row l i)) (row l i .series) (row l i .interval) (ring l i) (filled q (ring l i) k .ring)
+    unfolding filled
+    grown-filled =
+        grown-fill (rowSlots (row l i)) (row l i .series) (row l i .interval) (ring l i) q (record { ring = ring l i; writes = 0; refusal = 0 })
+        (windows q) k (record { sound-is = slab-of; header-is = λ w p x. refl })
+
+    pub filled-long : length (filled q (ring l i) k .ring .slab) ≡ row l i .len
+    unfolding row
+    filled-long = length-sound (l .image) g i hi (filled q (ring l i) k .ring .slab) (grown-filled .sound-is)
+
+    pub filled-sound : sound (row l i) (filled q (ring l i) k .ring .slab) ≡ true
+    unfolding row ring
+    filled-sound =
+        sound-keeps (row l i) (ring l i .slab) (filled q (ring l i) k .ring .slab) (grown-filled .header-is) (grown-filled .sound-is .cursor-in) (g .sounds i hi)
+
+module _ (l : Lent) (g : Good (l .image)) (i : ℕ) (hi : suc i < rowCount (l .image)) where
   -- the destination's ring, filled and put back
   stays-filled : (q : Job) (k : ℕ) → Stays l (withRing l (suc i) (filled q (ring l (suc i)) k .ring))
-  unfolding filled
-  stays-filled q k =
-      let j = suc i in
-      let h = grown-fill (rowSlots (row l j)) (row l j .series) (row l j .interval) (ring l j) q (record { ring = ring l j; writes = 0; refusal = 0 })
-      (windows q) k (record { sound-is = slab-of j hi; header-is = λ w p x. refl }) in
-      stays-ring l j (filled q (ring l j) k .ring) g hi (long (h .sound-is))
-      (sound-keeps (row l j) (ring l j .slab) (filled q (ring l j) k .ring .slab) (h .header-is) (h .sound-is .cursor-in) (unfold ring row in (g .sounds j hi)))
-    where
-      long : {t : List ℕ} → Sound t (rowSlots (row l (suc i))) (row l (suc i) .series) (row l (suc i) .interval) → length t ≡ row l (suc i) .len
-      long {t} h = unfold row in (length-sound (l .image) g (suc i) hi t (unfold row in h))
+  stays-filled q k = stays-ring l (suc i) (filled q (ring l (suc i)) k .ring) g hi (filled-long l g (suc i) hi q k) (filled-sound l g (suc i) hi q k)
 
   stays-with : (b : Bool) (f : ConsolidationFn) (c n : ℕ) → stampsBelow (ring l i .slab) 0 (slots (ring l i .slab)) ≡ b
       → Stays l (pairWith b f (record { lent = l; count = c; refusal = n }) i .lent)
@@ -116,11 +129,10 @@ module _ (l : Lent) (g : Good (l .image)) (i : ℕ) (hi : suc i < rowCount (l .i
       let p = filled (jobOf l i f) (ring l (suc i)) (row l i .series) in
       let m = withRing l (suc i) (p .ring) in
       let a = stays-filled (jobOf l i f) (row l i .series) in
-      let s = slab-of i (omega arith) in
       let t = orZero (newest (ring l i)) in
       let b = eqb (p .refusal) 0 && ltb 0 (p .writes) in
       stays-then l m (withMark b m i t) a
-      (stays-mark m b i t (a .good) (rw (count-kept (m .image) (l .image) (a .image-is)) (omega arith)) (newest-low (ring l i) (rw (s .slots-is) (s .cursor-in)) e))
+      (stays-mark m b i t (a .good) (rw (count-kept (m .image) (l .image) (a .image-is)) (omega arith)) (newest-of l g i (omega arith) e))
 
   -- whatever the pair's function
   pub stays-pair : (c n : ℕ) → Stays l (pair (record { lent = l; count = c; refusal = n }) i .lent)

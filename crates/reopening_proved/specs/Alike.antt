@@ -15,11 +15,11 @@ use Rattle.model.specs.Store.{read, readOr, shown}
 use Rattle.ring_theory.specs.Points.{reader-points}
 use Rattle.image_theory.specs.Recorded.{handle-in}
 use Rattle.image_theory.specs.Good.{Good}
+use Rattle.image_theory.specs.Pairs.{slab-of}
 use Rattle.image_theory.specs.Tiers.{tier-row, some-tier}
 use Rattle.query_theory.specs.Choice.{choice-in}
 use Rattle.query_theory.specs.Answer.{query-zero, auto-zero}
 use Rattle.reopening_proved.specs.Same.{Same}
-use Rattle.reopening_proved.specs.Each.{slab-of}
 
 -- what goes by the image alone: the rows' numbers, the checks
 module _ (l l' : Lent) (img : l' .image ≡ l .image) where

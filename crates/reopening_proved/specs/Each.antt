@@ -1,9 +1,10 @@
 -- A property of a ring that every accepted write keeps, and opening: then every call keeps it of every ring of the store, and so does every list of calls,
--- refused ones and openings among them, whatever is recorded and in whatever order. Assumes nothing.
+-- refused ones and openings among them, whatever is recorded and in whatever order. Where a fresh ring has it, every list of calls from creation on leaves it.
+-- Assumes nothing.
 use Prim.Native.Nat.{ℕ, zero, suc, _+_, _-_, _^_, _≤_, _<_}
 use native.Mathlib.Omega.{arith}
 use native.Mathlib.Decide.{ℕ-discrete}
-use mathlib.Core.Path.{_≡_, refl, sym, ap, subst}
+use mathlib.Core.Path.{_≡_, refl, sym, ap, _∙_, subst}
 use mathlib.Core.Bool.{Bool, true, false, _&&_}
 use mathlib.Core.List.{List, [], _∷_}
 use lib.Dec.{ltb, eqb}
@@ -17,24 +18,26 @@ use Rattle.model.specs.declared.WindowAnswer.{WindowAnswer}
 use Rattle.model.specs.declared.WindowAnswer.the-variants.{Empty, Number, NothingFinite}
 use Rattle.model.specs.Words.{functionNo}
 use Rattle.model.specs.Layout.{freshValue}
-use Rattle.model.specs.Image.{schemas, rowCount, rowAt, rowSlots, sound, openCheck}
-use Rattle.model.specs.Ring.{Ring, ColumnValue, slots, wrapFlag, write, newest}
+use Rattle.model.specs.Image.{schemas, rowCount, rowAt, rowSlots, sound, createCheck, openCheck}
+use Rattle.model.specs.Ring.{Ring, ColumnValue, slots, cell, wrapFlag, write, newest}
 use Rattle.model.specs.Window.{Job, windowAnswer}
-use Rattle.model.specs.Lent.{Lent, row, ring, withRing, rowNo, opening}
+use Rattle.model.specs.Lent.{Lent, row, ring, withRing, rowNo, opening, creation}
 use Rattle.model.specs.Record.{Entry, writeTo, recordCheck, recordOn, batchCheck, entriesOf, writeSome, writeSchemas, batchOn}
 use Rattle.model.specs.Consolidate.{Filled, writeCheck, writeOn, writeBits, writeAnswer, unlessRefused, fillWindow, fill, Run, refuseRun, stampsBelow, orZero, windows, jobOf, filled}
 use Rattle.model.specs.Consolidate.{withMark, closePair, pairWith, pairBy, pair, pairIf, pairs, runOn, run}
 use Rattle.model.specs.Store.{Call, Deed, reads, records, recordsAll, runs, opens, deed, doing, finished, call, after}
+use Rattle.reopening.specs.Reopening.{History, created, left}
 use Rattle.laws.specs.Checks.{each-zero, unless-zero}
 use Rattle.ring_theory.specs.Sound.{Sound, sound-write}
-use Rattle.image_theory.specs.Checks.{sound-keeps}
+use Rattle.ring_theory.specs.Hold.{Blank}
 use Rattle.image_theory.specs.Recorded.{stamp-low, stamp-pos, handle-in, record-zero, batch-zero, batch-none}
-use Rattle.image_theory.specs.Good.{Good, SameRows, setMark, length-sound, slab-sound, count-kept, schemas-kept}
+use Rattle.image_theory.specs.Good.{Good, SameRows, setMark, count-kept, schemas-kept}
 use Rattle.image_theory.specs.Frame.{count-with, ring-same, ring-other, length-write, sound-written}
 use Rattle.image_theory.specs.Mark.{ring-withMark}
 use Rattle.image_theory.specs.Stays.{kept-refl, stays-ring, stays-mark, stays-some, finest}
-use Rattle.image_theory.specs.Pairs.{grown-fill, newest-low, stays-if}
-use Rattle.image_theory.specs.Calls.{opened-image, opened-flags, ring-opened}
+use Rattle.image_theory.specs.Pairs.{slab-of, newest-of, filled-long, filled-sound, stays-if}
+use Rattle.image_theory.specs.Calls.{opened-image, opened-flags, ring-opened, verdict-after}
+use Rattle.fresh_theory.specs.Creation.{low-open, good-created, created-like, created-flags, created-blank, created-cell}
 
 -- a window's write that is accepted has a stamp
 write-zero : (v w : ℕ) → writeCheck v w ≡ 0 → (0 < w) × (w < 2 ^ 63)
@@ -50,10 +53,6 @@ same-sizes p q e =
     let i : p .interval ≡ q .interval = ap (λ (x : Row). x .interval) e in
     let t : p .retention ≡ q .retention = ap (λ (x : Row). x .retention) e in
     (rw (i, t) refl, ap (λ (x : Row). x .series) e)
-
-pub slab-of : (l : Lent) → Good (l .image) → (i : ℕ) → i < rowCount (l .image) → Sound (ring l i .slab) (rowSlots (row l i)) (row l i .series) (row l i .interval)
-unfolding ring row
-slab-of l g i h = slab-sound (l .image) g i h
 
 -- a ring after an opening that was handed the flags fs
 pub ring-again : (l : Lent) → Good (l .image) → (fs : List Bool) (i : ℕ) → i < rowCount (l .image)
@@ -193,16 +192,10 @@ module _ (P : ℕ → ℕ → Ring → Type 0)
         let j = suc i in
         let f : Filled = record { ring = ring l j; writes = 0; refusal = 0 } in
         let s = slab-of l (h .good) j hi in
-        let g = grown-fill (rowSlots (row l j)) (row l j .series) (row l j .interval) (ring l j) q f (windows q) k (record { sound-is = s; header-is = λ w p x. refl }) in
         let z = on-fill (rowSlots (row l j)) (row l j .series) (row l j .interval) q (windows q) k f (record { is-sound = s; has = h .rings j hi }) in
-        let r = fill q f (windows q) k .ring in (
-          put-back l j r h hi (long (g .sound-is))
-              (sound-keeps (row l j) (ring l j .slab) (r .slab) (g .header-is) (g .sound-is .cursor-in) (unfold ring row in (h .good .sounds j hi))) (z .has),
-          count-with l j r (h .good) hi (long (g .sound-is)),
-        )
-      where
-        long : {t : List ℕ} → Sound t (rowSlots (row l (suc i))) (row l (suc i) .series) (row l (suc i) .interval) → length t ≡ row l (suc i) .len
-        long {t} s = unfold row in (length-sound (l .image) (h .good) (suc i) hi t (unfold row in s))
+        let r = fill q f (windows q) k .ring in
+        let long = filled-long l (h .good) j hi q k in
+        (put-back l j r h hi long (filled-sound l (h .good) j hi q k) (z .has), count-with l j r (h .good) hi long)
 
     paired-with : (b : Bool) (f : ConsolidationFn) (c n : ℕ) → stampsBelow (ring l i .slab) 0 (slots (ring l i .slab)) ≡ b
         → Each (pairWith b f (record { lent = l; count = c; refusal = n }) i .lent)
@@ -211,9 +204,8 @@ module _ (P : ℕ → ℕ → Ring → Type 0)
     paired-with true f c n e =
         let p = filled (jobOf l i f) (ring l (suc i)) (row l i .series) in
         let a = filled-there (jobOf l i f) (row l i .series) in
-        let s = slab-of l (h .good) i (omega arith) in
         marked (eqb (p .refusal) 0 && ltb 0 (p .writes)) (withRing l (suc i) (p .ring)) i (orZero (newest (ring l i))) (a .0) (rw (a .1) (omega arith))
-        (newest-low (ring l i) (rw (s .slots-is) (s .cursor-in)) e)
+        (newest-of l (h .good) i (omega arith) e)
 
     paired : (f : TierFn) (c n : ℕ) → Each (pairBy f (record { lent = l; count = c; refusal = n }) i .lent)
     unfolding pairBy
@@ -270,3 +262,29 @@ module _ (P : ℕ → ℕ → Ring → Type 0)
   unfolding after
   each-after [] l h = h
   each-after (c ∷ cs) l h = each-after cs (call l c .lent) (each-call l c h)
+
+  -- ---- from creation on
+
+  module _ (on-blank : (n m d : ℕ) (r : Ring) → Blank r n m d → ((c i : ℕ) → c < m → i < n → cell (r .slab) c i ≡ freshValue) → P n m r) where
+    each-created : (p : List ℕ) (l : Lent) → createCheck p (l .image) ≡ 0 → openCheck (creation p l .image) ≡ 0 → Each (creation p l)
+    each-created p l ok e = record {
+      good = good-created p l ok low;
+      flags-are = rw (created-like p l ok low .count-is) (created-flags p l ok low);
+      rings = λ i hi. has i (rw (created-like p l ok low .count-is) at hi);
+    }
+      where
+        low : (i : ℕ) → i < rowCount p → rowAt p i .series < 2 ^ 32
+        low = low-open p l ok e
+
+        has : (i : ℕ) → i < rowCount p → P (rowSlots (row (creation p l) i)) (row (creation p l) i .series) (ring (creation p l) i)
+        has i hi =
+            let r = rowAt p i in
+            let a = created-like p l ok low .alike i hi in
+            unfold row rowSlots in (rw (a .interval-is, a .retention-is, a .series-is) (unfold rowSlots in
+            (on-blank (rowSlots r) (r .series) (r .interval) (ring (creation p l) i) (created-blank p l ok low i hi) (λ c j hc hj. created-cell p l ok low i c j hi hc hj))))
+
+    pub each-left : (h : History) → createCheck (h .plan) (h .buf) ≡ 0 → openCheck (left h .image) ≡ 0 → Each (left h)
+    unfolding left created
+    each-left h ok e =
+        let l : Lent = record { image = h .buf; flags = h .flags } in
+        each-after (h .calls) (creation (h .plan) l) (each-created (h .plan) l ok (sym (verdict-after (h .calls) (creation (h .plan) l)) ∙ e))

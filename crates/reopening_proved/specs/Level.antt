@@ -24,10 +24,10 @@ use Rattle.model.specs.Consolidate.{withMark, closePair, pairWith, pairBy, pair
 use Rattle.ring_theory.specs.Write.{write-is}
 use Rattle.image_theory.specs.Checks.{tiers-ok}
 use Rattle.image_theory.specs.Good.{count-kept}
-use Rattle.image_theory.specs.Pairs.{stays-if}
+use Rattle.image_theory.specs.Pairs.{slab-of, stays-if}
 use Rattle.reopening_proved.specs.Tidy.{Tidy, tidy-write, tidy-opened}
 use Rattle.reopening_proved.specs.Same.{Same, same-reading}
-use Rattle.reopening_proved.specs.Each.{Each, pair-if, slab-of}
+use Rattle.reopening_proved.specs.Each.{Each, pair-if}
 use Rattle.reopening_proved.specs.Windows.{filled-same}
 
 -- every ring of the store is tidy

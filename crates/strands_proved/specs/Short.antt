@@ -1,7 +1,7 @@
 -- How often a run begins anew in a source, by how long the range is. A range no longer than the ring holds, interval × slots, is read in one part; one no longer
 -- than two rings in three; one no longer than m in 2 m - 1; one more where the mark lies in the first window of all time. However many samples were missed or came late:
 -- for every list of calls from creation on, and for each pair of a run, whose source the pair before may just have written. Assumes nothing.
-use Prim.Native.Nat.{ℕ, zero, suc, _+_, _-_, _*_, _≤_, _<_}
+use Prim.Native.Nat.{ℕ, suc, _+_, _-_, _*_, _≤_, _<_}
 use native.Mathlib.Nat.{one-mul}
 use native.Mathlib.Omega.{arith}
 use mathlib.Core.Path.{_≡_, refl}
@@ -9,12 +9,12 @@ use Rattle.model.specs.declared.ConsolidationFn.{ConsolidationFn}
 use Rattle.model.specs.declared.End.the-variants.{At}
 use Rattle.model.specs.Image.{rowCount, createCheck, openCheck}
 use Rattle.model.specs.Ring.{Ring, slots, interval, newest, oldest}
-use Rattle.model.specs.Window.{windowOf}
 use Rattle.model.specs.Lent.{Lent, row, ring}
-use Rattle.model.specs.Consolidate.{orZero, startOf, endAfter, jobOf}
+use Rattle.model.specs.Consolidate.{startOf, endAfter, jobOf}
 use Rattle.reopening.specs.Reopening.{History, left}
 use Rattle.strand_theory.specs.Cuts.{Cuts, none, more}
 use Rattle.laws.specs.Windows.{window-span}
+use Rattle.pair_theory.specs.Pair.{start-first, start-marked}
 use Rattle.strand_theory.specs.Short.{short-cuts-from, short-cuts-any}
 use Rattle.strands_proved.specs.Theorem.{midway, AllHome, home-left, home-midway, midway-row, cursor-in, long-cut, behind-zero}
 
@@ -47,15 +47,6 @@ RunsReadShort =
 
 -- ---- the proof
 
-start-unmarked : (mark long : ℕ) (r : Ring) (t : ℕ) → mark ≡ 0 → oldest r ≡ At t → startOf mark long r ≡ t
-unfolding startOf orZero
-start-unmarked mark long r t e o = rw (e, o) refl
-
-start-marked : (mark long : ℕ) (r : Ring) → 0 < mark → startOf mark long r ≡ windowOf long mark
-unfolding startOf
-start-marked zero long r h = absurd (omega (arith, h))
-start-marked (suc k) long r h = refl
-
 end-at : (r : Ring) (u : ℕ) → newest r ≡ At u → endAfter (newest r) ≡ suc u
 unfolding endAfter
 end-at r u e = rw e refl
@@ -75,7 +66,7 @@ module _ (l : Lent) (a : AllHome l) (i : ℕ) (hi : i < rowCount (l .image)) (f 
 
   first : {k b : ℕ} → Cuts (jobOf l i f) k b → row l i .mark ≡ 0 → (t u : ℕ) → oldest (ring l i) ≡ At t → newest (ring l i) ≡ At u → u < t + span l i → k ≡ 0
   first cs e t u old new near =
-      let s = start-unmarked (row l i .mark) (row l (suc i) .interval) (ring l i) t e old in
+      let s = start-first (row l i .mark) (row l (suc i) .interval) t (ring l i) e old in
       omega (arith, marked cs (λ h. absurd (omega (arith, h, e))) 1 (omega (arith, end-at (ring l i) u new, s, near, one-mul (span l i))))
 
   next : {k b : ℕ} → Cuts (jobOf l i f) k b → row l (suc i) .interval ≤ row l i .mark → (u : ℕ) → newest (ring l i) ≡ At u

@@ -2,26 +2,24 @@
 -- is cut at most 2 (L - 1) times, so it is done in at most 2 L - 1 parts, each of which is looked for in one pass over the stamps and then filled; one more where
 -- the mark lies in the first window of all time, the range starts at 0 and a slot was never written. For every list of calls from creation on, and for each pair
 -- of a run, whose source the pair before may just have written. Assumes nothing.
-use Prim.Native.Nat.{ℕ, zero, suc, _+_, _-_, _*_, _^_, _≤_, _<_}
+use Prim.Native.Nat.{ℕ, zero, suc, _+_, _-_, _*_, _≤_, _<_}
 use native.Mathlib.Nat.{zero-add, add-zero}
 use native.Mathlib.Omega.{arith}
-use mathlib.Core.Path.{_≡_, refl, sym, _∙_, subst}
+use mathlib.Core.Path.{_≡_, refl, subst}
 use mathlib.Core.Logic.{inl, inr}
 use mathlib.Core.List.{List, _∷_}
 use lib.Dec.{eqb}
 use lib.ListN.{length}
 use Rattle.model.specs.declared.ConsolidationFn.{ConsolidationFn}
-use Rattle.model.specs.Image.{rowCount, rowAt, rowSlots, createCheck, openCheck}
-use Rattle.model.specs.Ring.{Ring, slots, cursor, stamp, order, endOf, orStamp, firstStamp, oldest}
+use Rattle.model.specs.Image.{rowCount, createCheck, openCheck}
+use Rattle.model.specs.Ring.{Ring, slots, cursor, stamp, order, orStamp, firstStamp, oldest}
 use Rattle.model.specs.Window.{windowOf}
-use Rattle.model.specs.Lent.{Lent, row, ring, creation}
-use Rattle.model.specs.Consolidate.{Run, orZero, startOf, jobOf, pairIf, pairs, runOn, run}
-use Rattle.reopening.specs.Reopening.{History, created, left}
+use Rattle.model.specs.Lent.{Lent, row, ring}
+use Rattle.model.specs.Consolidate.{Run, startOf, jobOf, pairIf, pairs, runOn, run}
+use Rattle.reopening.specs.Reopening.{History, left}
 use Rattle.image_theory.specs.Good.{count-kept}
-use Rattle.image_theory.specs.Pairs.{stays-pairs}
-use Rattle.image_theory.specs.Calls.{verdict-after}
-use Rattle.fresh_theory.specs.Creation.{low-open, good-created, created-like, created-flags, created-blank}
-use Rattle.reopening_proved.specs.Each.{Each, slab-of, all-pairs, each-after}
+use Rattle.image_theory.specs.Pairs.{end-back, slab-of, stays-pairs}
+use Rattle.reopening_proved.specs.Each.{Each, all-pairs, each-left}
 use Rattle.strand_theory.specs.Cuts.{In, Cut, Cuts, none, more, Passes, Laps}
 use Rattle.laws.specs.Windows.{window-mono, window-self, window-le, window-long}
 use Rattle.strand_theory.specs.Passes.{before-left}
@@ -60,26 +58,8 @@ midway-last l e = rw e
 abbrev pub AllHome : Lent → Type 0
 AllHome = Each Home home-write home-opened
 
-module _ (p : List ℕ) (l : Lent) (accepted : createCheck p (l .image) ≡ 0) (opens : openCheck (creation p l .image) ≡ 0) where
-  low : (i : ℕ) → i < rowCount p → rowAt p i .series < 2 ^ 32
-  low = low-open p l accepted opens
-
-  home-created : AllHome (creation p l)
-  home-created =
-      let like = created-like p l accepted low in
-      record {
-        good = good-created p l accepted low;
-        flags-are = rw (like .count-is) (created-flags p l accepted low);
-        rings = λ i hi.
-            let r = rowAt p i in
-            home-blank (rowSlots r) (r .series) (r .interval) (ring (creation p l) i) (created-blank p l accepted low i (rw (like .count-is) at hi));
-      }
-
 pub home-left : (h : History) → createCheck (h .plan) (h .buf) ≡ 0 → openCheck (left h .image) ≡ 0 → AllHome (left h)
-unfolding left created
-home-left h ok e =
-    let l : Lent = record { image = h .buf; flags = h .flags } in
-    each-after Home home-write home-opened (h .calls) (creation (h .plan) l) (home-created (h .plan) l ok (sym (verdict-after (h .calls) (creation (h .plan) l)) ∙ e))
+home-left = each-left Home home-write home-opened (λ n m d r b fresh. home-blank n m d r b)
 
 -- ---- where the reading starts
 
@@ -94,15 +74,10 @@ unfolding firstStamp
 first-some s (j ∷ js) i (inl e) h = or-some (stamp s j) (firstStamp s js) (omega (arith, subst (λ (x : ℕ). 0 < stamp s x) e h))
 first-some s (j ∷ js) i (inr m) h = or-some (stamp s j) (firstStamp s js) (omega (arith, first-some s js i m h))
 
-zero-end : (t : ℕ) → orZero (endOf t) ≡ t
-unfolding orZero endOf
-zero-end zero = refl
-zero-end (suc t) = refl
-
 -- with no mark, or a mark behind the first window of all time, a reading with a stamp in it starts behind 0
 starts : (mark long : ℕ) (r : Ring) (i : ℕ) → In i (order r) → 0 < stamp (r .slab) i → 0 < long → (0 < mark → long ≤ mark) → 0 < startOf mark long r
 unfolding startOf oldest
-starts zero long r i m h z late = rw (zero-end (firstStamp (r .slab) (order r))) (first-some (r .slab) (order r) i m h)
+starts zero long r i m h z late = rw (end-back (firstStamp (r .slab) (order r))) (first-some (r .slab) (order r) i m h)
 starts (suc k) long r i m h z late = omega (arith, window-mono long (late (omega arith)), window-self long z, z)
 
 -- ---- the claim

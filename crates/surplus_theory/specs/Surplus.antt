@@ -13,12 +13,9 @@ use Rattle.model.specs.declared.Row.{Row}
 use Rattle.model.specs.Bytes.{part}
 use Rattle.model.specs.Image.{tierCheck, newTierCheck, unless, first, rowCount, totalLength, rowPlace, rows, rowLength, slabsEnd, imageLength, shape, layoutCheck, placed, slabOf, soundAll, planCheck, createCheck, openCheck, freshImage}
 use Rattle.model.specs.Lent.{Lent, wrapFlags, openOn, opening, createOn, creation}
+use Rattle.image_theory.specs.Good.{head-inside}
 use Rattle.layout.specs.Ends.{ends-ge}
 use Rattle.surplus_theory.specs.Agree.{Agree, part-same, count-same, total-same, rows-same, length-same, layout-same, blank-same, shape-same}
-
-head-in : (s : List ℕ) → rowPlace (rowCount s) ≤ imageLength s
-unfolding imageLength
-head-in s = ends-ge (rowPlace (rowCount s)) (rows s)
 
 -- slabs that are placed within n bytes are the same
 sound-same : {n : ℕ} {s t : List ℕ} → Agree n s t → (at : ℕ) (rs : List Row) → placed at rs ≡ true → slabsEnd at rs ≤ n → soundAll s rs ≡ soundAll t rs
@@ -87,12 +84,12 @@ module _ {s t : List ℕ} (h : SameImage s t) where
   unfolding openCheck
   open-same =
       rw (
-        ← shape-same a (head-in s) (h .here) (h .there),
-        ← layout-same a (head-in s) tierCheck,
-        ← total-same a (head-in s),
-        ← rows-same a (head-in s),
-        ← count-same a (head-in s),
-        ← length-same a (head-in s),
+        ← shape-same a (head-inside s) (h .here) (h .there),
+        ← layout-same a (head-inside s) tierCheck,
+        ← total-same a (head-inside s),
+        ← rows-same a (head-inside s),
+        ← count-same a (head-inside s),
+        ← length-same a (head-inside s),
         long-same,
       )
       (then-same (unless (shape s) 1) (layoutCheck tierCheck s) _ _
@@ -104,7 +101,7 @@ module _ {s t : List ℕ} (h : SameImage s t) where
   opening-same fl = rw (← open-same) (go (openCheck s) refl)
     where
       go : (k : ℕ) → openCheck s ≡ k → openOn k (record { image = s; flags = fl }) .flags ≡ openOn k (record { image = t; flags = fl }) .flags
-      go zero e = unfold openOn in (rw (← rows-same a (head-in s), ← count-same a (head-in s), flags-same a (rowPlace (rowCount s)) (rows s) (places s e) (unfold imageLength in (omega arith))))
+      go zero e = unfold openOn in (rw (← rows-same a (head-inside s), ← count-same a (head-inside s), flags-same a (rowPlace (rowCount s)) (rows s) (places s e) (unfold imageLength in (omega arith))))
       go (suc k) e = unfold openOn in refl
 
 -- ---- creation
