@@ -1,4 +1,4 @@
--- A list of flags as one number, the first flag its lowest bit, and back; each undoes the other, and flag i is the test x / 2^i % 2. The edge to C lends
+-- A list of flags as one number, the first flag its lowest bit, and back, which gives the flags again; flag i is the test x / 2^i % 2. The edge to C lends
 -- the flags so. Assumes nothing.
 use Prim.Native.Nat.{ℕ, zero, suc, _+_, _*_, _/_, _%_, _^_, _-_, _<_, _≤_}
 use native.Mathlib.Omega.{arith}
@@ -32,18 +32,7 @@ unfolding bits
 bit-at (suc k) x zero h = rw (pow-zero, div-one)
 bit-at (suc k) x (suc i) h = rw (bit-at k (x / 2) i (omega arith), div-div-eq-div-mul, ← pow-succ')
 
--- ---- each undoes the other
-
-bit-of-rest : (r : ℕ) → r < 2 → bitOf (eqb r 1) ≡ r
-bit-of-rest zero h = refl
-bit-of-rest (suc zero) h = refl
-bit-of-rest (suc (suc r)) h = absurd (omega arith)
-
-pub number-bits : (k x : ℕ) → x < 2 ^ k → number (bits k x) ≡ x
-unfolding bits number
-number-bits zero x h = omega (arith, pow-zero 2)
-number-bits (suc k) x h =
-    rw (bit-of-rest (x % 2) (omega arith), number-bits k (x / 2) (omega (arith, pow-suc 2 k))) (omega arith)
+-- ---- the bits of the flags' number are the flags
 
 rest-of-bit : (b : Bool) → eqb (bitOf b % 2) 1 ≡ b
 rest-of-bit true = refl

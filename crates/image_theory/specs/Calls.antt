@@ -1,6 +1,6 @@
--- Every call keeps an image in good order, refused or accepted, for any plan and any list of calls: header and rows stay, but for marks, and so do what lies
--- behind the image and the flags past its rows; at an opening those are the flags that it is handed. A call on an image that does not pass the checks leaves all
--- as it is handed. So the verdict of the checks never changes. An opening works out the flag of every ring, and leaves its slab. Assumes nothing.
+-- Every call keeps an image in good order, refused or accepted: header and rows stay, but for marks, and so do what lies behind the image and the flags past its
+-- rows; at an opening those are the flags that it is handed. A call on an image that does not pass the checks leaves all as it is handed. So the verdict of the
+-- checks never changes, whatever the list of calls. An opening works out the flag of every ring, and leaves its slab. Assumes nothing.
 use Prim.Native.Nat.{ℕ, zero, suc, _+_, _-_, _≤_, _<_}
 use native.Mathlib.Nat.{add-zero}
 use native.Mathlib.Omega.{arith}
@@ -17,8 +17,8 @@ use Rattle.model.specs.Record.{recordCheck, recordOn, Entry, batchCheck, batchO
 use Rattle.model.specs.Consolidate.{runOn, run}
 use Rattle.model.specs.Store.{Call, Deed, reads, records, recordsAll, runs, opens, deed, doing, finished, call, after}
 use Rattle.image_theory.specs.Recorded.{handle-in, record-zero}
-use Rattle.image_theory.specs.Good.{Good, SameRows, count-kept, imageLength-kept, open-good, good-open}
-use Rattle.image_theory.specs.Stays.{Stays, kept-refl, kept-trans, stays-same, stays-write, stays-schemas}
+use Rattle.image_theory.specs.Good.{Good, SameRows, open-good, good-open}
+use Rattle.image_theory.specs.Stays.{Stays, kept-refl, stays-same, stays-write, stays-schemas}
 use Rattle.image_theory.specs.Pairs.{stays-pairs}
 
 -- ---- opening
@@ -106,17 +106,6 @@ pub record Leaves (l l' : Lent) : Type 0 where
 leaves : {l l' : Lent} → Stays l l' → Leaves l l'
 leaves h = record { good = h .good; image-is = h .image-is; surplus-is = h .surplus-is; flags-are = λ x. h .flags-are; flags-past = h .flags-past }
 
-leaves-then : (l m n : Lent) → Leaves l m → Leaves m n → Leaves l n
-leaves-then l m n a b =
-    let c = count-kept (m .image) (l .image) (a .image-is) in
-    record {
-      good = b .good;
-      image-is = kept-trans (l .image) (m .image) (n .image) (a .image-is) (b .image-is);
-      surplus-is = λ p w h. b .surplus-is p w (rw (imageLength-kept (m .image) (l .image) (a .image-is)) h) ∙ a .surplus-is p w h;
-      flags-are = λ h. b .flags-are (rw (c, a .flags-are h) h) ∙ a .flags-are h;
-      flags-past = λ j h. b .flags-past j (rw c h) ∙ a .flags-past j h;
-    }
-
 leaves-opening : (l : Lent) → Good (l .image) → Leaves l (opening l)
 leaves-opening l g = record {
   good = rw (opened-image l) g;
@@ -154,33 +143,6 @@ stays-deed l g (opens fs) = leaves-opening (record { image = l .image; flags = f
 pub stays-call : (l : Lent) → Good (l .image) → (c : Call) → Leaves (handed l c) (call l c .lent)
 unfolding call
 stays-call l g c = stays-deed l g (deed c)
-
--- the flags that were handed last
-abbrev pub flagsLast : List Bool → List Call → List Bool
-flagsLast fs [] = fs
-flagsLast fs (c ∷ cs) = flagsLast (flagsTo fs c) cs
-
-abbrev pub handedLast : Lent → List Call → Lent
-handedLast l cs = record { image = l .image; flags = flagsLast (l .flags) cs }
-
-leaves-handed : (l m : Lent) → Leaves l m → (d : Deed) → Leaves (handedBy l d) (handedBy m d)
-leaves-handed l m h (reads reply) = h
-leaves-handed l m h (records k c v t) = h
-leaves-handed l m h (recordsAll es t) = h
-leaves-handed l m h runs = h
-leaves-handed l m h (opens fs) = record { good = h .good; image-is = h .image-is; surplus-is = h .surplus-is; flags-are = λ x. refl; flags-past = λ j x. refl }
-
-leaves-last : (l m : Lent) → Leaves l m → (cs : List Call) → Leaves (handedLast l cs) (handedLast m cs)
-leaves-last l m h [] = h
-leaves-last l m h (c ∷ cs) = leaves-last (handed l c) (handed m c) (leaves-handed l m h (deed c)) cs
-
-pub stays-after : (l : Lent) → Good (l .image) → (cs : List Call) → Leaves (handedLast l cs) (after l cs)
-unfolding after
-stays-after l g [] = leaves (stays-same l g)
-stays-after l g (c ∷ cs) =
-    let m = call l c .lent in
-    let a = stays-call l g c in
-    leaves-then (handedLast (handed l c) cs) (handedLast m cs) (after m cs) (leaves-last (handed l c) m a cs) (stays-after m (a .good) cs)
 
 -- one list, then another
 pub after-append : (cs : List Call) (l : Lent) (ds : List Call) → after l (cs ++ ds) ≡ after (after l cs) ds

@@ -1,5 +1,5 @@
 -- Sums of sums: whole numbers added up in groups, and then the groups' sums, give bit for bit what one sum over all of them gives, however they are
--- grouped. So a sum may be kept in parts and joined later; no call does so yet. Assumes nothing.
+-- grouped. So a sum may be kept in parts and joined later, for sums by line card; no call does so yet. Assumes nothing.
 use mathlib.Core.Path.{_≡_, refl, sym, _∙_}
 use mathlib.Core.Bool.{Bool, true, false, _&&_, and-true, and-false, and-assoc}
 use mathlib.Core.List.{List, [], _∷_, _++_, flatten, map}

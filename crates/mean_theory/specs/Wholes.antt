@@ -179,6 +179,7 @@ neg-zeros-none (x ∷ xs) h =
     let q : num x / den x ≡ 0 = rw z (zero-div (den x)) in
     (omega (arith, r .0, parts (sign x) (num x / den x)), omega (arith, r .1, parts (sign x) (num x / den x)))
 
+-- a sum is -0.0 exactly where every value is: for sums by line card, whose sign of zero has to be that of one sum
 pub sum-neg-zero : (xs : List Float) → All WholeNumber xs → aboves xs + belows xs ≤ 2 ^ 53 → (fold Sum (foldStart Sum) xs ≡ fin true 0 (pos 0)) ↔ T (negZeros xs)
 sum-neg-zero xs h l = (only, all)
   where
@@ -193,25 +194,6 @@ sum-neg-zero xs h l = (only, all)
 
 -- ---- whole offsets
 
--- each whole number within ±2 ^ 30, and -0.0
-pub offset-pos : (n : ℕ) → n ≤ 2 ^ 30 → Offset (ofInt binary64 (pos n))
-unfolding ofInt
-offset-pos n h =
-    let v = round-whole binary64 false n (le-trans h (lit≤ tt)) in
-    let k = whole-of (round binary64 false n 1) false n (ofInt-fits binary64 (pos n)) v in
-    (k .0, rw (k .2) h)
-
-pub offset-neg : (n : ℕ) → suc n ≤ 2 ^ 30 → Offset (ofInt binary64 (negsuc n))
-unfolding ofInt
-offset-neg n h =
-    let v = round-whole binary64 true (suc n) (le-trans h (lit≤ tt)) in
-    let k = whole-of (round binary64 true (suc n) 1) true (suc n) (ofInt-fits binary64 (negsuc n)) v in
-    (k .0, rw (k .2) h)
-
-pub offset-neg-zero : Offset (fin true 0 (pos 0))
-unfolding fits
-offset-neg-zero = ((tt, tt, refl), lit≤ tt)
-
 offsets-bound : (xs : List Float) → All Offset xs → All WholeNumber xs × (aboves xs + belows xs ≤ length xs * 2 ^ 30)
 unfolding aboves belows
 offsets-bound [] h = (tt, lit≤ tt)
@@ -220,10 +202,11 @@ offsets-bound (x ∷ xs) h = let r = offsets-bound xs (h .1) in ((h .0 .0, r .0)
 pub offsets-whole : (xs : List Float) → All Offset xs → length xs ≤ maxCount → All WholeNumber xs × (aboves xs + belows xs ≤ 2 ^ 53)
 offsets-whole xs h l = let r = offsets-bound xs h in (r .0, omega (arith, r .1))
 
+-- document 01's sentence: whole offsets add exactly
 pub offsets-sum : (xs : List Float) → All Offset xs → length xs ≤ maxCount → IsWhole (fold Sum (foldStart Sum) xs) (aboves xs) (belows xs) (negZeros xs)
 offsets-sum xs h l = let o = offsets-whole xs h l in sum-exact xs (o .0) (o .1)
 
--- the average is the exact quotient, rounded once
+-- and the mean rounds once: the average is the exact quotient, rounded
 pub average-once : (xs : List Float) → All Offset xs → Counted xs
     → (w : IsWhole (fold Average (foldStart Average) xs) (aboves xs) (belows xs) (negZeros xs))
     × (apply Average xs ≡ round binary64 (w .sign) (w .size) (length xs))
