@@ -51,8 +51,10 @@ mod plan;
 mod query;
 mod refusal;
 mod store;
+mod view;
 
 pub use plan::{ConsolidationFn, MAX_SCHEMAS, MAX_TIERS, Plan, TierConfig, nanos};
 pub use query::{Points, QueryResult};
 pub use refusal::Refusal;
 pub use store::{Entry, SeriesHandle, Store};
+pub use view::{TierInfo, Tiers, View};

@@ -11,8 +11,8 @@ pub const MAX_SCHEMAS: usize = 8;
 /// How many tiers a plan may have, those of all its schemas together.
 pub const MAX_TIERS: usize = 32;
 
-const HEADER: usize = 32;
-const ROW: usize = 64;
+pub(crate) const HEADER: usize = 32;
+pub(crate) const ROW: usize = 64;
 
 /// A time as nanoseconds; `u64::MAX` where it is longer than 64 bits hold, which is refused as an interval, a retention or a
 /// stamp.
@@ -50,6 +50,27 @@ impl ConsolidationFn {
     /// Its number, 1 to 6, as in the header for C.
     pub const fn number(self) -> u32 {
         self as u32
+    }
+
+    /// The function with this number; none for 0, which stands for no function, and where there is no such number.
+    ///
+    /// ```
+    /// use rondo::ConsolidationFn;
+    ///
+    /// assert_eq!(ConsolidationFn::from_number(6), Some(ConsolidationFn::Count));
+    /// assert_eq!(ConsolidationFn::from_number(0), None);
+    /// assert_eq!(ConsolidationFn::from_number(7), None);
+    /// ```
+    pub const fn from_number(number: u32) -> Option<ConsolidationFn> {
+        match number {
+            1 => Some(ConsolidationFn::Average),
+            2 => Some(ConsolidationFn::Min),
+            3 => Some(ConsolidationFn::Max),
+            4 => Some(ConsolidationFn::Last),
+            5 => Some(ConsolidationFn::Sum),
+            6 => Some(ConsolidationFn::Count),
+            _ => None,
+        }
     }
 }
 

@@ -2,8 +2,7 @@
 
 use core::fmt;
 
-use crate::calls::{self, Asked};
-use crate::{Plan, QueryResult, Refusal};
+use crate::{Plan, QueryResult, Refusal, View, calls};
 
 /// A series: the schema's number and the column's, both from 0.
 #[derive(Debug, Clone, Copy, PartialEq, Eq, PartialOrd, Ord, Hash)]
@@ -52,6 +51,8 @@ impl From<(SeriesHandle, f64)> for Entry {
 ///
 /// The flags are not in the image. Within a `Store` they are kept; when the bytes alone were kept, as over a power cycle,
 /// [`Store::open`] works them out, and all reads as before. [`Store::into_parts`] and [`Store::resume`] carry both.
+///
+/// Bytes that are only to be read are opened by [`View::open`].
 pub struct Store<'a> {
     image: &'a mut [u8],
     flags: u32,
@@ -102,8 +103,7 @@ impl<'a> Store<'a> {
     /// Those of [`Plan::image_size`], [`Refusal::BadImage`] also for bytes that end before the image does, then
     /// [`Refusal::CorruptedSlab`].
     pub fn open(image: &'a mut [u8]) -> Result<Self, Refusal> {
-        let mut flags = 0;
-        calls::open(image, &mut flags)?;
+        let flags = View::open(image)?.flags();
         Ok(Store { image, flags })
     }
 
@@ -138,6 +138,11 @@ impl<'a> Store<'a> {
     /// read, from the one behind the slot written last; 0 where those from the first up to that one are.
     pub fn flags(&self) -> u32 {
         self.flags
+    }
+
+    /// The store as it stands, for reading alone: its tiers too.
+    pub fn view(&self) -> View<'_> {
+        View::resume(self.image, self.flags)
     }
 
     /// Records a value in a series' finest tier. The slot is the stamp's, `stamp / interval` modulo slots; what stood there is
@@ -209,8 +214,7 @@ impl<'a> Store<'a> {
     /// Those of [`Store::open`], then [`Refusal::InvalidHandle`], [`Refusal::InvalidTier`], [`Refusal::InvalidTimeRange`], in
     /// this order.
     pub fn query(&self, handle: SeriesHandle, tier: u32, start_ns: u64, end_ns: u64) -> Result<QueryResult<'_>, Refusal> {
-        let answer = calls::query(self.image, self.flags, asked(handle, start_ns, end_ns), tier)?;
-        Ok(QueryResult::new(self.image, answer))
+        self.view().query(handle, tier, start_ns, end_ns)
     }
 
     /// The same in the first tier that covers the range in full (it starts at the oldest stamp or later, and ends at the
@@ -231,8 +235,7 @@ impl<'a> Store<'a> {
     ///
     /// Those of [`Store::open`], then [`Refusal::InvalidHandle`], [`Refusal::InvalidTimeRange`], in this order.
     pub fn query_auto(&self, handle: SeriesHandle, start_ns: u64, end_ns: u64) -> Result<QueryResult<'_>, Refusal> {
-        let answer = calls::query_auto(self.image, self.flags, asked(handle, start_ns, end_ns))?;
-        Ok(QueryResult::new(self.image, answer))
+        self.view().query_auto(handle, start_ns, end_ns)
     }
 
     /// Brings every coarser tier up to date, and answers how many values were written. It may follow any sample. The window
@@ -271,10 +274,6 @@ impl<'a> Store<'a> {
     pub fn consolidate(&mut self) -> Result<u64, Refusal> {
         calls::consolidate(self.image, &mut self.flags)
     }
-}
-
-fn asked(handle: SeriesHandle, start: u64, end: u64) -> Asked {
-    Asked { schema: handle.schema, column: handle.column, start, end }
 }
 
 impl fmt::Debug for Store<'_> {
