@@ -12,11 +12,11 @@
 use std::fmt::Write;
 use std::path::Path;
 
-use rondo::{ConsolidationFn, Plan, Store, TierConfig};
+use rondo::{ConsolidationFn, Plan, TierConfig, View};
 
 use crate::failure::{Done, Failure};
 use crate::table::{self, FUNCTIONS, Row};
-use crate::writing::{fresh, open};
+use crate::writing::{fresh, view};
 use crate::{file, input, locate, time, value};
 
 const FIRST: &str = "rondo-dump 1";
@@ -24,7 +24,7 @@ const NAN: u64 = 0x7ff8_0000_0000_0000;
 
 pub fn dump(name: &Path) -> Done<String> {
     let mut bytes = file::read(name)?;
-    open(name, &mut bytes)?;
+    view(name, &bytes)?;
     let rows = table::rows(&bytes);
     let end = rows.last().map_or(0, |row| row.offset + row.length);
     bytes.truncate(end as usize);
@@ -71,8 +71,8 @@ pub fn restore(name: &Path) -> Done<String> {
             "line {line}: the dump is cut short, its last line is not end; nothing is stored"
         )));
     }
-    let mut bytes = built(name, &text)?;
-    if let Err(r) = Store::open(&mut bytes) {
+    let bytes = built(name, &text)?;
+    if let Err(r) = View::open(&bytes) {
         let place = locate::image(&bytes, r);
         return Err(crate::failure::refusal(r, &place).after("the dump makes an image that is refused"));
     }
@@ -141,17 +141,8 @@ fn schema(words: &[&str]) -> Option<(u32, u64, Vec<TierConfig>)> {
 
 fn tier(words: &[&str]) -> Option<TierConfig> {
     let function = FUNCTIONS.iter().position(|name| Some(name) == words.get(3))?;
-    let functions = [
-        None,
-        Some(ConsolidationFn::Average),
-        Some(ConsolidationFn::Min),
-        Some(ConsolidationFn::Max),
-        Some(ConsolidationFn::Last),
-        Some(ConsolidationFn::Sum),
-        Some(ConsolidationFn::Count),
-    ];
     let (interval, retention) = (time::span(words.get(1)?).ok()?, time::span(words.get(2)?).ok()?);
-    Some(TierConfig::from_nanos(interval, retention, functions[function]))
+    Some(TierConfig::from_nanos(interval, retention, ConsolidationFn::from_number(function as u32)))
 }
 
 fn put(bytes: &mut [u8], at: usize, number: &[u8]) -> Option<()> {

@@ -3,6 +3,7 @@
 use rondo::{ConsolidationFn, MAX_SCHEMAS, MAX_TIERS, Plan, TierConfig};
 
 use crate::failure::{Done, Failure};
+use crate::table::FUNCTIONS;
 use crate::time;
 
 /// The words that are left, and how to say what was expected.
@@ -71,21 +72,13 @@ fn tiers(words: &mut Words) -> Done<Vec<TierConfig>> {
 }
 
 fn function(word: &str) -> Done<ConsolidationFn> {
-    Ok(match word {
-        "average" => ConsolidationFn::Average,
-        "min" => ConsolidationFn::Min,
-        "max" => ConsolidationFn::Max,
-        "last" => ConsolidationFn::Last,
-        "sum" => ConsolidationFn::Sum,
-        "count" => ConsolidationFn::Count,
-        _ => {
-            let expected = "expected average, min, max, last, sum, count, or the next tier or schema";
-            return Err(Failure::usage(format!("'{word}': {expected}")));
-        }
-    })
+    let number = FUNCTIONS.iter().position(|name| *name == word);
+    let found = number.and_then(|number| ConsolidationFn::from_number(number as u32));
+    let expected = "expected average, min, max, last, sum, count, or the next tier or schema";
+    found.ok_or_else(|| Failure::usage(format!("'{word}': {expected}")))
 }
 
-/// The schema's hash: FNV-1a of 32 bits over series and tiers, as the program `history` makes it.
+/// The schema's hash: FNV-1a of 32 bits over interval, retention, function and series of each tier.
 fn hash(series: u32, tiers: &[TierConfig]) -> u64 {
     let mut hash = 0x811c_9dc5u32;
     let mut add = |bytes: &[u8]| bytes.iter().for_each(|b| hash = (hash ^ u32::from(*b)).wrapping_mul(0x0100_0193));

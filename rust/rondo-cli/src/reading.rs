@@ -4,14 +4,14 @@ use std::fmt::Write;
 use std::io::{self, IsTerminal};
 use std::path::Path;
 
-use rondo::{QueryResult, Refusal, SeriesHandle, Store};
+use rondo::{QueryResult, Refusal, SeriesHandle};
 use serde_json::{Value, json};
 
 use crate::cli::{Asked, Tier};
 use crate::failure::{Done, Failure, refusal};
 use crate::table;
 use crate::time::{self, date};
-use crate::writing::{no_series, open};
+use crate::writing::{no_series, view};
 use crate::{file, value};
 
 /// The form of the output.
@@ -45,16 +45,16 @@ pub fn ask(asked: &Asked) -> Done<Answer> {
     let now = time::now();
     let start = bound("START", asked.start.as_deref(), now, 0)?;
     let end = bound("END", asked.end.as_deref(), now, u64::MAX)?;
-    let mut bytes = file::read(&asked.file)?;
-    let store = open(&asked.file, &mut bytes)?;
+    let bytes = file::read(&asked.file)?;
+    let view = view(&asked.file, &bytes)?;
     let handle = SeriesHandle::new(asked.schema, asked.column);
     let found = match asked.tier {
-        Tier::Auto => store.query_auto(handle, start, end),
-        Tier::Number(tier) => store.query(handle, tier, start, end),
+        Tier::Auto => view.query_auto(handle, start, end),
+        Tier::Number(tier) => view.query(handle, tier, start, end),
     };
     match found {
         Ok(found) => Ok(answer(found)),
-        Err(r) => Err(refusal(r, &why(&store, asked, r, start, end)).after(asked.file.display())),
+        Err(r) => Err(refusal(r, &why(&bytes, asked, r, start, end)).after(asked.file.display())),
     }
 }
 
@@ -69,11 +69,11 @@ fn bound(name: &str, text: Option<&str>, now: u64, all: u64) -> Done<u64> {
     time::stamp(text, now).map_err(|why| Failure::usage(format!("{name} cannot be read from '{text}': {why}")))
 }
 
-fn why(store: &Store, asked: &Asked, refusal: Refusal, start: u64, end: u64) -> String {
+fn why(image: &[u8], asked: &Asked, refusal: Refusal, start: u64, end: u64) -> String {
     match refusal {
-        Refusal::InvalidHandle => no_series(store.image(), SeriesHandle::new(asked.schema, asked.column)),
+        Refusal::InvalidHandle => no_series(image, SeriesHandle::new(asked.schema, asked.column)),
         Refusal::InvalidTier => {
-            let tiers = table::tiers(&table::rows(store.image()), asked.schema).len();
+            let tiers = table::tiers(&table::rows(image), asked.schema).len();
             format!("schema {} has tiers 0 to {}", asked.schema, tiers.saturating_sub(1))
         }
         Refusal::InvalidTimeRange => {
@@ -145,7 +145,6 @@ fn json_of(answer: &Answer) -> String {
 }
 
 pub fn check(name: &Path) -> Done<String> {
-    let mut bytes = file::read(name)?;
-    open(name, &mut bytes)?;
+    view(name, &file::read(name)?)?;
     Ok("good\n".to_string())
 }

@@ -3,15 +3,15 @@
 use std::fmt::Write;
 use std::path::Path;
 
-use rondo::{SeriesHandle, Store};
+use rondo::TierInfo;
 use serde_json::{Value, json};
 
-use crate::failure::Done;
+use crate::failure::{Done, refusal};
 use crate::file;
 use crate::reading::{Form, bold};
 use crate::table::{self, Row};
 use crate::time::{date, spoken};
-use crate::writing::open;
+use crate::writing::view;
 
 /// A row, and what its ring holds.
 struct Shown {
@@ -24,23 +24,19 @@ struct Shown {
 }
 
 pub fn show(name: &Path, form: Form) -> Done<String> {
-    let mut bytes = file::read(name)?;
-    let store = open(name, &mut bytes)?;
-    let rows = table::rows(store.image()).into_iter().enumerate();
-    let all: Vec<Shown> = rows.map(|(i, row)| shown(&store, i, row)).collect();
+    let bytes = file::read(name)?;
+    let tiers = view(name, &bytes)?.tiers().map_err(|r| refusal(r, &r.to_string()).after(name.display()))?;
+    let all: Vec<Shown> = table::rows(&bytes).into_iter().zip(tiers).map(|(row, tier)| shown(&bytes, row, tier)).collect();
     Ok(match form {
-        Form::Table => table_of(store.image(), &all),
+        Form::Table => table_of(&bytes, &all),
         Form::Csv => csv_of(&all),
         Form::Json => format!("{}\n", Value::Array(all.iter().map(json_of).collect())),
     })
 }
 
-fn shown(store: &Store, number: usize, row: Row) -> Shown {
-    let found = store.query(SeriesHandle::new(row.schema, 0), row.tier, 0, u64::MAX);
-    let (oldest, newest) = found.map_or((None, None), |answer| answer.available_range());
-    let (used, wrapped) = (row.used(store.image()), store.flags() >> number & 1 == 1);
-    let mark = Some(row.mark).filter(|mark| *mark != 0);
-    Shown { row, used, wrapped, oldest, newest, mark }
+fn shown(image: &[u8], row: Row, tier: TierInfo) -> Shown {
+    let (oldest, newest, mark) = (tier.oldest_timestamp, tier.newest_timestamp, tier.consolidated_to);
+    Shown { used: row.used(image), row, wrapped: tier.has_wrapped, oldest, newest, mark }
 }
 
 fn table_of(image: &[u8], all: &[Shown]) -> String {

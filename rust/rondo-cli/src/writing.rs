@@ -2,7 +2,7 @@
 
 use std::path::Path;
 
-use rondo::{Plan, Refusal, SeriesHandle, Store};
+use rondo::{Plan, Refusal, SeriesHandle, Store, View};
 
 use crate::failure::{Done, Failure, refusal};
 use crate::input::{self, Sample};
@@ -38,12 +38,15 @@ pub fn add_notes(report: &mut String, notes: &[String]) {
     notes.iter().for_each(|note| report.push_str(&format!("  {note}\n")));
 }
 
-/// Opens an image's bytes, or says where they are damaged.
+/// Opens an image's bytes for reading, or says where they are damaged.
+pub fn view<'a>(name: &Path, bytes: &'a [u8]) -> Done<View<'a>> {
+    View::open(bytes).map_err(|r| refusal(r, &locate::image(bytes, r)).after(name.display()))
+}
+
+/// The same for writing.
 pub fn open<'a>(name: &Path, bytes: &'a mut [u8]) -> Done<Store<'a>> {
-    match Store::open(bytes).map(|store| store.flags()) {
-        Ok(flags) => Ok(Store::resume(bytes, flags)),
-        Err(r) => Err(refusal(r, &locate::image(bytes, r)).after(name.display())),
-    }
+    let flags = view(name, bytes)?.flags();
+    Ok(Store::resume(bytes, flags))
 }
 
 pub fn record(name: &Path, words: &[&str], wait: u64) -> Done<String> {
