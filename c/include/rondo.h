@@ -147,22 +147,22 @@ static inline const char *rondo_refusal_name(uint32_t number) {
 static inline const char *rondo_refusal_words(uint32_t number) {
     static const char *const words[RONDO_ANSWERS] = {
         "the call was carried out",
-        "the table of contents is damaged",
+        "the plan has no schema, more than 8 schemas or more than 32 tiers, or the image's table is damaged, or the image is cut short",
         "a schema has no tier",
-        "a schema must have at least one series",
-        "a tier's interval and retention must be above 0 and below 2^63 ns, and the retention at least the interval",
+        "a schema's greatest number of series is 0",
+        "an interval or a retention is 0, or 2^63 ns or more, or the retention is below the interval",
         "a tier would have more than 1000000000 slots",
-        "each tier's interval must be longer than that of the tier before it",
-        "the first tier of a schema takes no function, as samples are recorded there",
+        "a tier's interval is not above the finer tier's",
+        "a schema's finest tier has a function",
         "the image would be longer than 2^40 bytes",
-        "the image does not fit into the room for it",
-        "a slab's header does not suit its row, or a stamp in it is 2^63 ns or more",
+        "the bytes lent for the image are fewer than the plan needs",
+        "a slab's header is damaged, or a stamp in it is 2^63 ns or more",
         "there is no such schema, or no such column in it",
-        "a value must not be infinite",
-        "a stamp must be above 0 and below 2^63 ns",
+        "the value is infinite",
+        "the stamp is 0, or 2^63 ns or more",
         "the schema has no such tier",
-        "a range must start before it ends",
-        "a coarser tier has no function to make it from the finer one",
+        "the range's start is not below its end",
+        "a coarser tier has no function",
     };
     return number < RONDO_ANSWERS ? words[number] : "no refusal has this number";
 }

@@ -114,10 +114,11 @@ impl Refusal {
         }
     }
 
+    // the header for C has the same words: c/tests/tables
     const fn words(self) -> &'static str {
         match self {
             Refusal::BadImage => {
-                "the plan has no schema, more than 8 or more than 32 tiers, or the image is damaged in its table or cut short"
+                "the plan has no schema, more than 8 schemas or more than 32 tiers, or the image's table is damaged, or the image is cut short"
             }
             Refusal::NoTiers => "a schema has no tier",
             Refusal::InvalidMaxSeries => "a schema's greatest number of series is 0",
@@ -129,10 +130,10 @@ impl Refusal {
             Refusal::ConsolidationOnHighestTier => "a schema's finest tier has a function",
             Refusal::LayoutTooLarge => "the image would be longer than 2^40 bytes",
             Refusal::ShortBuffer => "the bytes lent for the image are fewer than the plan needs",
-            Refusal::CorruptedSlab => "a slab's header is damaged, or a stamp in it is 2^63 or more",
+            Refusal::CorruptedSlab => "a slab's header is damaged, or a stamp in it is 2^63 ns or more",
             Refusal::InvalidHandle => "there is no such schema, or no such column in it",
             Refusal::InvalidValue => "the value is infinite",
-            Refusal::InvalidTimestamp => "the stamp is 0, or 2^63 or more",
+            Refusal::InvalidTimestamp => "the stamp is 0, or 2^63 ns or more",
             Refusal::InvalidTier => "the schema has no such tier",
             Refusal::InvalidTimeRange => "the range's start is not below its end",
             Refusal::NoConsolidationFunction => "a coarser tier has no function",
