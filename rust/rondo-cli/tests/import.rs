@@ -169,14 +169,14 @@ fn import_says_where_runs_were_missed_before() {
     assert_eq!(folder.good_with("import a.img", "0 0 51s 1\n").lines().count(), 1);
 }
 
-/// The clock offset at a second as the tour of `history` has it.
+/// A clock offset at a second: up and down within half an hour, and a slow drift.
 fn offset_at(t: u64) -> u64 {
     let phase = t % 1800;
     if phase < 900 { phase + t / 8 } else { 1800 - phase + t / 8 }
 }
 
 #[test]
-fn the_tour_of_history() {
+fn two_hours_of_a_clock() {
     let folder = Folder::new();
     assert_eq!(folder.good(&format!("create clock.img {DAYS}")), "created, bytes: 225080\n");
     for (from, count) in [(3600, 61), (7200, 63)] {
