@@ -154,7 +154,7 @@ pub struct Asked {
     #[arg(value_name = "TIER", value_parser = tier)]
     pub tier: Tier,
     /// Points from this time on
-    #[arg(value_name = "START", requires = "end", allow_hyphen_values = true)]
+    #[arg(value_name = "START", allow_hyphen_values = true)]
     pub start: Option<String>,
     /// and before this time; without both: all time
     #[arg(value_name = "END", allow_hyphen_values = true)]

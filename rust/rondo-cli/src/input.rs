@@ -64,21 +64,22 @@ fn plain_samples(text: &str, now: u64) -> Done<Vec<Sample>> {
 
 /// A sample from its four words.
 pub fn sample(words: &[&str], now: u64) -> Result<Sample, String> {
-    let names = ["SCHEMA", "COLUMN", "STAMP", "VALUE"];
-    if let Some(name) = names.get(words.len()) {
-        return Err(format!("{name} is missing"));
-    }
     if let Some(word) = words.get(4) {
         return Err(format!("one word too many: '{word}'"));
     }
-    let said = |name: &str, word: &str, why: String| format!("{name} cannot be read from '{word}': {why}");
     Ok(Sample {
         line: 0,
-        schema: number(words[0]).map_err(|why| said("SCHEMA", words[0], why))?,
-        column: number(words[1]).map_err(|why| said("COLUMN", words[1], why))?,
-        stamp: time::stamp(words[2], now).map_err(|why| said("STAMP", words[2], why))?,
-        value: value::read(words[3]).map_err(|why| said("VALUE", words[3], why))?,
+        schema: word("SCHEMA", words.first(), number)?,
+        column: word("COLUMN", words.get(1), number)?,
+        stamp: word("STAMP", words.get(2), |text| time::stamp(text, now))?,
+        value: word("VALUE", words.get(3), value::read)?,
     })
+}
+
+/// One of the four words, read.
+fn word<T>(name: &str, word: Option<&&str>, read: impl Fn(&str) -> Result<T, String>) -> Result<T, String> {
+    let word = word.ok_or_else(|| format!("{name} is missing"))?;
+    read(word).map_err(|why| format!("{name} cannot be read from '{word}': {why}"))
 }
 
 /// A whole number; one too large for a handle becomes the largest, which no image has.

@@ -59,16 +59,17 @@ fn parsed() -> Done<Cli> {
     })
 }
 
-/// A usage error's first part in one line.
+/// A usage error in one line, without the usage and the advice to escape a word.
 fn one_line(text: &str) -> String {
     let text = text.strip_prefix("error: ").unwrap_or(text);
     let kept = text.split("\n\nUsage:").next().unwrap_or(text);
     let kept = kept.split("\n\nFor more information").next().unwrap_or(kept);
-    let words: Vec<&str> = kept.split_whitespace().collect();
-    if words.is_empty() || text.starts_with(ABOUT_START) {
+    if text.is_empty() || text.starts_with(ABOUT_START) {
         return "no command; `rondo help` lists them".to_string();
     }
-    format!("{}; see `rondo help`", words.join(" "))
+    let parts = kept.split("\n\n").map(|part| part.split_whitespace().collect::<Vec<_>>().join(" "));
+    let parts: Vec<String> = parts.filter(|part| !part.is_empty() && !part.starts_with("If you ")).collect();
+    format!("{}; see `rondo help`", parts.join("; "))
 }
 
 const ABOUT_START: &str = "Keeps image files";

@@ -44,6 +44,9 @@ pub struct Answer {
 pub fn ask(asked: &Asked) -> Done<Answer> {
     let now = time::now();
     let start = bound("START", asked.start.as_deref(), now, 0)?;
+    if asked.start.is_some() && asked.end.is_none() {
+        return Err(Failure::usage("<END> is missing: a range has a start and an end"));
+    }
     let end = bound("END", asked.end.as_deref(), now, u64::MAX)?;
     let bytes = file::read(&asked.file)?;
     let view = view(&asked.file, &bytes)?;
