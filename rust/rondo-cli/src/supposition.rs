@@ -16,7 +16,7 @@ pub fn of_plan(head: &[u8]) -> Vec<String> {
     for schema in 0..table::schemas(head) {
         let tiers = table::tiers(&rows, schema);
         if !(2..=4).contains(&tiers.len()) {
-            notes.push(format!("schema {schema}: it has {} tiers, not 2 to 4", tiers.len()));
+            notes.push(format!("schema {schema}: the number of its tiers is {}, not 2 to 4", tiers.len()));
         }
         notes.extend(tiers.windows(2).flat_map(of_pair));
         let coarsest = tiers.last().map_or(0, |t| t.interval);

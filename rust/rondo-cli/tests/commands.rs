@@ -337,5 +337,8 @@ fn create_says_where_a_plan_is_not_covered() {
         "{said}"
     );
     let said = folder.good("create two.img series 1 tier 1s 1min schema series 1 tier 1s 1min tier 10s 1min average");
-    assert!(said.contains("one schema, and there are 2") && said.contains("schema 0: it has 1 tiers"), "{said}");
+    assert!(
+        said.contains("one schema, and there are 2") && said.contains("schema 0: the number of its tiers is 1, not 2 to 4"),
+        "{said}"
+    );
 }

@@ -81,9 +81,9 @@ fn killed_at_200_random_moments() {
     };
     let began = Instant::now();
     (1..=5).for_each(|value| assert!(record(value).wait().unwrap().success()));
-    let span = began.elapsed().as_micros() as u64 / 5 * 5 / 4 + 1;
+    let mut span = began.elapsed().as_micros() as u64 / 5 + 100;
     let mut random = Random(7);
-    let (mut last, mut done) = (5.0, 0);
+    let (mut last, mut done, mut left) = (5.0, 0, 0);
     for value in 6..206 {
         let mut child = record(value);
         thread::sleep(Duration::from_micros(random.below(span)));
@@ -93,10 +93,14 @@ fn killed_at_200_random_moments() {
         let points = folder.points("a.img 0 1 0");
         let found = points[0].1;
         assert!(found == last || found == value as f64, "{found} after {last}, {value}");
+        // as many after the replacement as before it, however fast the machine is
+        span = if found == last { span * 21 / 20 } else { span * 20 / 21 };
         done += u32::from(found != last);
+        left += u32::from(!leftovers(&folder.path).is_empty());
         last = found;
     }
-    println!("of 200 killed commands {done} had replaced the file");
+    println!("of 200 killed commands {done} had replaced the file, {left} left a temporary one");
+    assert!((20..=180).contains(&done), "{done}");
     folder.good("record a.img 0 1 3600s 1000");
     assert!(leftovers(&folder.path).is_empty(), "{:?}", leftovers(&folder.path));
     assert_eq!(folder.points("a.img 0 0 0").len(), 1800);
@@ -105,26 +109,26 @@ fn killed_at_200_random_moments() {
 #[test]
 fn leftovers_are_not_in_the_way_and_go() {
     let folder = image();
-    // a writer that is stopped with its temporary file there, then killed
+    let began = Instant::now();
     folder.good("record a.img 0 0 10s 1");
-    let mut seen = false;
-    for delay in (0..4000).step_by(20) {
+    let span = began.elapsed().as_micros() as u64;
+    // writers, killed later and later, until one leaves its temporary file
+    let left = (0..2000).find(|round| {
         let mut command = folder.command();
         let mut child = command.args(["record", "a.img", "0", "0", "11s", "2"]).stdout(Stdio::null()).spawn().unwrap();
-        thread::sleep(Duration::from_micros(delay));
+        thread::sleep(Duration::from_micros(span * (round % 200) / 100));
         let _ = child.kill();
         child.wait().unwrap();
-        if !leftovers(&folder.path).is_empty() {
-            seen = true;
-            break;
-        }
-    }
-    println!("a leftover was made by a kill: {seen}");
-    // one by hand, with the name that a writer gives
-    let name = leftovers(&folder.path).first().cloned().unwrap_or(".rondo-0000000000000000-1-0".to_string());
-    fs::write(folder.file(&name), "half").unwrap();
+        !leftovers(&folder.path).is_empty()
+    });
+    println!("killed commands before one left a temporary file: {left:?}");
+    let name = leftovers(&folder.path).pop().unwrap();
+    // of an image with another name it stays
+    folder.good(&format!("create b.img {PLAN}"));
+    folder.good("record b.img 0 0 12s 3");
+    assert_eq!(leftovers(&folder.path), [name]);
     folder.good("record a.img 0 0 12s 3");
-    assert!(!seen || leftovers(&folder.path).is_empty());
+    assert!(leftovers(&folder.path).is_empty());
 }
 
 #[test]
