@@ -20,6 +20,7 @@ mod show;
 mod supposition;
 mod svg;
 mod table;
+mod ticks;
 mod time;
 mod value;
 mod writing;

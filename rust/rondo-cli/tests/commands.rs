@@ -174,7 +174,9 @@ fn plot_into_a_picture() {
     }
     let svg = String::from_utf8(folder.bytes("p.svg")).unwrap();
     assert_eq!((svg.matches("<circle").count(), svg.matches("</svg>").count()), (3, 1));
-    assert!(svg.contains(">1970-01-01T00:00:10Z<") && svg.contains(">-1.5<"));
+    for label in ["-1.0", "4.0", "1970-01-01T00:00:10Z", "1970-01-01T00:00:15Z"] {
+        assert!(svg.contains(&format!(">{label}<")), "{svg}");
+    }
     let png = folder.bytes("p.png");
     assert!(png.starts_with(b"\x89PNG") && png.ends_with(b"IEND\xaeB`\x82"));
     folder.good("plot a.img 0 0 0 50s 60s --out empty.png");
