@@ -109,6 +109,8 @@ fn two_days_with_a_run_each_half_hour() {
         for at in (from..from + 172_800).step_by(1800) {
             folder.good_with("record days.img", &feed(at, at + 1800));
             folder.good("consolidate days.img");
+            let found = folder.points(&format!("days.img 0 0 0 {at}s {}s", at + 1800));
+            assert!(found.into_iter().eq((at..at + 1800).map(|t| (t * 1_000_000_000, (t % 3600) as f64))));
         }
         holds(&folder, "days.img", from, from + 172_800);
     }

@@ -2,7 +2,8 @@
 //!
 //! A [`Store`] is one block of bytes, the image, and one number of flags. A [`Plan`] says what it holds: schemas of some series
 //! each, and for each schema tiers, such as seconds for two hours and minutes for a day. Values are recorded in the finest tier;
-//! [`Store::consolidate`] makes the coarser ones; queries read any of them. Times are nanoseconds from where you like.
+//! [`Store::consolidate`] makes the coarser ones; queries read any of them. A [`View`] reads an image that nothing may change,
+//! such as one in flash. Times are nanoseconds from where you like.
 //!
 //! This crate is a thin safe face. The work is done by librondo.a, a library in which every call is proved to do what its
 //! definition says, on every input: any bytes may be lent, and each call answers, or refuses with one [`Refusal`]. It allocates
