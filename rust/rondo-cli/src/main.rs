@@ -16,6 +16,7 @@ mod planning;
 mod plot;
 mod png;
 mod reading;
+mod refused_run;
 mod show;
 mod supposition;
 mod svg;

@@ -6,8 +6,7 @@ use rondo::{Plan, Refusal, SeriesHandle, Store, View};
 
 use crate::failure::{Done, Failure, refusal};
 use crate::input::{self, Sample};
-use crate::table::{self, Row};
-use crate::{file, locate, planning, supposition, time, value};
+use crate::{file, locate, planning, refused_run, supposition, table, time, value};
 
 pub fn create(name: &Path, words: &[String]) -> Done<String> {
     let plan = planning::read(words)?;
@@ -108,25 +107,7 @@ pub fn consolidate(name: &Path, wait: u64) -> Done<String> {
 
 /// Brings the coarser tiers up to date, or says why that is refused.
 pub fn run(name: &Path, store: &mut Store) -> Done<u64> {
-    store.consolidate().map_err(|r| {
-        let rows = table::rows(store.image());
-        let why = match r {
-            Refusal::NoConsolidationFunction => no_function(&rows),
-            Refusal::InvalidTimestamp => early(&rows),
-            Refusal::InvalidValue => "a window's sum is beyond the greatest number of 64 bits".to_string(),
-            other => locate::image(store.image(), other),
-        };
-        refusal(r, &why).after(name.display()).and("the file is as it was")
-    })
-}
-
-fn no_function(rows: &[Row]) -> String {
-    let found = rows.iter().enumerate().find(|(_, row)| row.tier > 0 && row.function == 0);
-    let (row, schema, tier) = found.map_or((0, 0, 0), |(i, row)| (i, row.schema, row.tier));
-    format!("row {row}, field function: schema {schema}, tier {tier} has none, so it cannot be made from the finer tier")
-}
-
-fn early(rows: &[Row]) -> String {
-    let coarsest = rows.iter().map(|row| row.interval).max().unwrap_or(0);
-    format!("a sample's window starts at 0; let stamps begin at the coarsest interval, {}, or later", time::spoken(coarsest))
+    store
+        .consolidate()
+        .map_err(|r| refusal(r, &refused_run::place(store.image(), r)).after(name.display()).and("the file is as it was"))
 }

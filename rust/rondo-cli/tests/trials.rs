@@ -191,6 +191,38 @@ fn ranges() {
     }
 }
 
+/// What a run is refused by, and where.
+#[test]
+fn runs() {
+    let folder = Folder::new();
+    let plan = "series 2 tier 1s 10min tier 10s 1h sum tier 1min 1h average";
+    for (lines, has) in [
+        (
+            "0 1 5s 1\n0 1 60s 1\n",
+            "refusal 13, InvalidTimestamp: slab of row 0, slot 5: the sample at 5s is in the window of 10s",
+        ),
+        ("0 0 3s 1\n0 1 5s 1\n0 0 9s 1\n", "slot 3: the sample at 3s (and 2 more) is in the window of 10s that starts at 0"),
+        ("0 1 35s 1\n", "refusal 13, InvalidTimestamp: slab of row 1, slot 3: the sample at 30s is in the window of 1min"),
+        (
+            "0 1 60s 1e308\n0 1 70s 1e308\n0 1 71s 1e308\n",
+            "refusal 12, InvalidValue: row 1, column 1, window 1970-01-01T00:01:10Z: the sum of its values",
+        ),
+        ("0 0 60s 1.5e308\n0 0 70s 1.5e308\n", "refusal 12, InvalidValue: row 2, column 0, window 1970-01-01T00:01:00Z"),
+    ] {
+        folder.good(&format!("create r.img {plan}"));
+        folder.bad_with(1, has, "import r.img", lines);
+        folder.good_with("record r.img", lines);
+        folder.bad(1, has, "consolidate r.img");
+        fs::remove_file(folder.file("r.img")).unwrap();
+    }
+    // it goes when its slot is written again
+    folder.good("create s.img series 1 tier 1s 20s tier 10s 1h average");
+    folder.good("record s.img 0 0 5s 1");
+    folder.bad(1, "slot 5", "consolidate s.img");
+    folder.good("record s.img 0 0 25s 1");
+    assert_eq!(folder.good("consolidate s.img"), "consolidated, values written: 1\n");
+}
+
 /// Files that are no images, and names that stand in the way of none.
 #[test]
 fn files() {
