@@ -289,6 +289,38 @@ fn a_full_disk() {
     tried.unwrap();
 }
 
+/// The calls of a command that sync and name files, in order, as `strace` shows them.
+fn traced(folder: &Folder, words: &str) -> Option<Vec<String>> {
+    let mut command = Command::new("strace");
+    command.args(["-f", "-qq", "-y", "-e", "trace=fsync,rename,linkat", RONDO]).args(words.split(' '));
+    let done = command.current_dir(&folder.path).stdin(Stdio::null()).output().ok().filter(|done| done.status.success())?;
+    let text = String::from_utf8(done.stderr).unwrap();
+    let folder = format!("{}>", folder.path.canonicalize().unwrap().display());
+    let short = |line: &str| {
+        let call = line.split('(').next().unwrap_or_default().rsplit(' ').next().unwrap_or_default().to_string();
+        if call != "fsync" {
+            return call;
+        }
+        if line.contains(&folder) { "fsync folder".to_string() } else { "fsync file".to_string() }
+    };
+    Some(text.lines().map(short).collect())
+}
+
+#[test]
+fn file_and_folder_are_synced() {
+    let folder = Folder::new();
+    let create = format!("create a.img {PLAN}");
+    let Some(created) = traced(&folder, &create) else {
+        println!("not tried: there is no `strace` that works");
+        return;
+    };
+    assert_eq!(created, ["fsync file", "linkat", "fsync folder"]);
+    for words in ["record a.img 0 0 60s 1", "consolidate a.img"] {
+        assert_eq!(traced(&folder, words).unwrap(), ["fsync file", "rename", "fsync folder"], "{words}");
+    }
+    assert_eq!(traced(&folder, "query a.img 0 0 0").unwrap(), [""; 0]);
+}
+
 #[test]
 fn of_eight_creations_one_is_done() {
     let folder = Folder::new();
