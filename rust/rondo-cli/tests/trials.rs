@@ -198,7 +198,7 @@ fn runs() {
     let plan = "series 2 tier 1s 10min tier 10s 1h sum tier 1min 1h average";
     for (lines, has) in [
         (
-            "0 1 5s 1\n0 1 60s 1\n",
+            "0 1 5s 1\n0 1 10s 1\n",
             "refusal 13, InvalidTimestamp: slab of row 0, slot 5: the sample at 5s is in the window of 10s",
         ),
         ("0 0 3s 1\n0 1 5s 1\n0 0 9s 1\n", "slot 3: the sample at 3s (and 2 more) is in the window of 10s that starts at 0"),
