@@ -77,8 +77,8 @@ struct Column {
 struct Faults(BTreeMap<&'static str, (u64, String)>);
 
 impl Faults {
-    fn add(&mut self, what: &'static str, count: u64, place: String) {
-        self.0.entry(what).or_insert((0, place)).0 += count;
+    fn add(&mut self, what: &'static str, count: u64, place: impl FnOnce() -> String) {
+        self.0.entry(what).or_insert_with(|| (0, place())).0 += count;
     }
 }
 
@@ -105,7 +105,7 @@ fn place(sample: &Sample) -> String {
 fn start(faults: &mut Faults, first: &Sample, newest: Option<u64>, finest: u64, coarsest: u64) -> u64 {
     match newest {
         Some(newest) if first.stamp < newest => {
-            faults.add("stamps that fall below what the image held", 1, place(first));
+            faults.add("stamps that fall below what the image held", 1, || place(first));
             first.stamp - first.stamp % finest
         }
         // a tick that the image began may go on in another column
@@ -118,7 +118,7 @@ fn start(faults: &mut Faults, first: &Sample, newest: Option<u64>, finest: u64, 
         }
         None => {
             if !first.stamp.is_multiple_of(coarsest) {
-                faults.add("first samples that are not at a multiple of the coarsest interval", 1, place(first));
+                faults.add("first samples that are not at a multiple of the coarsest interval", 1, || place(first));
             }
             first.stamp - first.stamp % finest
         }
@@ -131,12 +131,12 @@ fn ticks(faults: &mut Faults, samples: &[&Sample], begin: u64, interval: u64) {
     for sample in samples {
         let tick = sample.stamp - sample.stamp % interval;
         if tick != sample.stamp {
-            faults.add("samples between ticks", 1, place(sample));
+            faults.add("samples between ticks", 1, || place(sample));
         }
         let fresh = Column { next: begin, missing: 0, first_missing: 0 };
         let column = columns.entry(sample.column).or_insert(fresh);
         if tick < column.next {
-            faults.add("samples more than one a tick", 1, place(sample));
+            faults.add("samples more than one a tick", 1, || place(sample));
             continue;
         }
         column.skip_to(tick, interval);
@@ -146,7 +146,7 @@ fn ticks(faults: &mut Faults, samples: &[&Sample], begin: u64, interval: u64) {
     for (number, column) in &mut columns {
         column.skip_to(last, interval);
         if column.missing > 0 {
-            let at = format!("schema {}, column {number}, {}", samples[0].schema, date(column.first_missing));
+            let at = || format!("schema {}, column {number}, {}", samples[0].schema, date(column.first_missing));
             faults.add("missing ticks", column.missing, at);
         }
     }
@@ -165,8 +165,8 @@ impl Column {
 fn whole(faults: &mut Faults, sample: &Sample) {
     let limit = f64::from(1 << 30);
     if sample.value.fract() != 0.0 || sample.value.is_nan() {
-        faults.add("values that are not whole numbers", 1, place(sample));
+        faults.add("values that are not whole numbers", 1, || place(sample));
     } else if sample.value.abs() > limit {
-        faults.add("values beyond 2^30", 1, place(sample));
+        faults.add("values beyond 2^30", 1, || place(sample));
     }
 }

@@ -60,7 +60,7 @@ pub fn span(text: &str) -> Result<u64, String> {
         return Err(format!("a number needs its unit, one of {NAMED}: {number}s"));
     }
     let found = UNITS.iter().find(|(name, _)| *name == unit);
-    let (_, size) = found.ok_or(format!("'{unit}' is no unit; the units are {NAMED}"))?;
+    let (_, size) = found.ok_or_else(|| format!("'{unit}' is no unit; the units are {NAMED}"))?;
     scaled(number, *size)
 }
 
