@@ -1,5 +1,6 @@
 //! Samples from text: lines `SCHEMA COLUMN STAMP VALUE`, or CSV with or without a line of names.
 
+use std::borrow::Cow;
 use std::io::{self, Read};
 
 use crate::failure::{Done, FILE, Failure, plain};
@@ -128,25 +129,28 @@ fn csv_samples(text: &str, now: u64) -> Done<Vec<Sample>> {
     Ok(samples)
 }
 
+/// Fields as they stand in their line, or made from quotes.
+type Record<'a> = Vec<Cow<'a, str>>;
+
 /// The fields of one line. A line is a record, so that the line's number is known.
-fn csv_record(text: &str) -> Result<csv::StringRecord, String> {
+fn csv_record(text: &str) -> Result<Record<'_>, String> {
     // making a reader takes longer than reading a line, and a line without quotes needs none
-    if !text.contains(['"', '\r']) {
-        return Ok(text.split(',').map(str::trim).collect());
+    if !text.bytes().any(|b| b == b'"' || b == b'\r') {
+        return Ok(text.split(',').map(|field| field.trim().into()).collect());
     }
     read_record(text)
 }
 
-fn read_record(text: &str) -> Result<csv::StringRecord, String> {
+fn read_record(text: &str) -> Result<Record<'_>, String> {
     let mut build = csv::ReaderBuilder::new();
     let build = build.has_headers(false).flexible(true).trim(csv::Trim::All).buffer_capacity(text.len() + 1);
     let mut record = csv::StringRecord::new();
     build.from_reader(text.as_bytes()).read_record(&mut record).map_err(|e| e.to_string())?;
-    Ok(record)
+    Ok(record.iter().map(|field| field.to_string().into()).collect())
 }
 
 /// The fields by a line of names: schema, column, stamp or time or stamp_ns, value.
-fn named(record: &csv::StringRecord) -> Result<Fields, String> {
+fn named(record: &[Cow<str>]) -> Result<Fields, String> {
     let find = |name: &str| record.iter().position(|field| field.eq_ignore_ascii_case(name));
     let exact = find("stamp_ns");
     let stamp = exact.or(find("stamp")).or(find("time")).ok_or("no field is named stamp, stamp_ns or time")?;
@@ -154,17 +158,17 @@ fn named(record: &csv::StringRecord) -> Result<Fields, String> {
     Ok(Fields { schema: find("schema"), column: find("column"), stamp, value, bare_ns: exact.is_some() })
 }
 
-fn csv_sample(record: &csv::StringRecord, fields: &Fields, now: u64) -> Result<Sample, String> {
+fn csv_sample(record: &[Cow<str>], fields: &Fields, now: u64) -> Result<Sample, String> {
     let field = |at: Option<usize>, name: &str| match at {
         None => Ok("0"),
-        Some(at) => record.get(at).ok_or_else(|| format!("{name} is missing")),
+        Some(at) => record.get(at).map(Cow::as_ref).ok_or_else(|| format!("{name} is missing")),
     };
     let most = [fields.schema, fields.column, Some(fields.stamp), Some(fields.value)].into_iter().flatten().max();
     if fields.schema == Some(0) && fields.value == 3 && most == Some(3) && record.len() > 4 {
         return Err(format!("one field too many: '{}'", &record[4]));
     }
     let stamp = field(Some(fields.stamp), "STAMP")?;
-    let stamp = if fields.bare_ns { format!("{stamp}ns") } else { stamp.to_string() };
+    let stamp: Cow<str> = if fields.bare_ns { [stamp, "ns"].concat().into() } else { stamp.into() };
     let (schema, column) = (field(fields.schema, "SCHEMA")?, field(fields.column, "COLUMN")?);
     sample(&[schema, column, &stamp, field(Some(fields.value), "VALUE")?], now)
 }
