@@ -3,14 +3,15 @@
 -- so does opening. Assumes nothing.
 use Prim.Native.Nat.{ℕ, suc, _-_, _/_, _%_, _^_, _≤_, _<_}
 use native.Mathlib.Omega.{arith}
-use native.Mathlib.Decide.{ℕ-discrete, decLt}
+use native.Mathlib.Decide.{ℕ-discrete}
 use mathlib.Core.Path.{_≡_, sym, ap, _∙_, subst}
-use mathlib.Core.Bool.{false, true≢false}
+use mathlib.Core.Bool.{false}
 use mathlib.Core.List.{List}
 use lib.Dec.{ltb}
+use borrow.Author.Tests.{ltb-false}
 use Rattle.model.specs.Layout.{freshValue}
 use Rattle.model.specs.Ring.{Ring, ColumnValue, slots, cursor, stamp, cell, slotOf, wrapFlag, write}
-use Rattle.laws.specs.Tests.{yes-lt, or-none}
+use Rattle.laws.specs.Tests.{or-none}
 use Rattle.ring_theory.specs.Write.{Elsewhere, flag-is}
 use Rattle.ring_theory.specs.Sound.{Sound, slot-is, cursor-write, elsewhere-sound}
 use Rattle.ring_theory.specs.Hold.{Blank}
@@ -26,14 +27,6 @@ pub tidy-blank : (n m d : ℕ) (r : Ring) → Blank r n m d → ((c i : ℕ) →
 tidy-blank n m d r b f = record { unstamped = λ i c hi hc z. f c i hc hi; above = λ w i lo hi. b .stamps i hi }
 
 -- ---- a write
-
--- a test that fails
-no-less : (a b : ℕ) → ltb a b ≡ false → b ≤ a
-no-less a b h = go (decLt a b)
-  where
-    go : Dec (a < b) → b ≤ a
-    go (yes p) = absurd (true≢false (sym (yes-lt a b p) ∙ h))
-    go (no p) = omega arith
 
 pub tidy-write : (n m d : ℕ) (r : Ring) (es : List ColumnValue) (t : ℕ) → Sound (r .slab) n m d → 0 < t → t < 2 ^ 63 → Tidy n m r → Tidy n m (write r es t)
 tidy-write n m d r es t h pos low ty = record { unstamped = λ i c hi hc z. fresh i c hi hc z (ℕ-discrete i slot); above = λ w i lo hi. beyond i (or-none (r .wrapped) _ (sym (flag-is r es t) ∙ w)) (rw cur at lo) hi }
@@ -60,7 +53,7 @@ tidy-write n m d r es t h pos low ty = record { unstamped = λ i c hi hc z. fres
     -- the flag is still not set: the cursor did not go back
     beyond : (i : ℕ) → (r .wrapped ≡ false) × (ltb (slotOf (r .slab) t) (cursor (r .slab)) ≡ false) → slot < i → i < n → stamp u i ≡ 0
     beyond i f lo hi =
-        let back : cursor (r .slab) ≤ slot = subst (λ (x : ℕ). cursor (r .slab) ≤ x) (slot-is h t) (no-less (slotOf (r .slab) t) (cursor (r .slab)) (f .1)) in
+        let back : cursor (r .slab) ≤ slot = subst (λ (x : ℕ). cursor (r .slab) ≤ x) (slot-is h t) (ltb-false (slotOf (r .slab) t) (cursor (r .slab)) (f .1)) in
         e .stamp-other i (there i hi) (λ q. omega (arith, q)) ∙ ty .above (f .0) i (omega arith) hi
 
 -- ---- opening
