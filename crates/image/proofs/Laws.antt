@@ -3,14 +3,13 @@ use Prim.Native.Nat.{ℕ, suc, _+_, _-_, _≤_, _<_}
 use native.Mathlib.Nat.{sub-zero, zero-add}
 use native.Mathlib.Omega.{arith}
 use mathlib.Core.Path.{_≡_}
-use mathlib.Core.Bool.{Bool, true, _&&_}
+use mathlib.Core.Bool.{Bool, true, _&&_, and-assoc, and-true}
 use mathlib.Core.List.{List}
 use lib.ListN.{length, take, drop}
 use Rattle.model.specs.declared.Row.{Row}
 use Rattle.laws.specs.Bytes.{length-part}
 use Rattle.model.specs.Image.{rowsFrom, rowAt, rowLength, rowSlots, slabsEnd, placed, slabOf, sound, soundAll}
 use Rattle.image_theory.specs.Rows.{placed-at, slabsEnd-suc, slabsEnd-le}
-use Rattle.rows.specs.Tests.{and-assoc, and-true}
 use Rattle.rows.specs.Rows.{rowsTo, rows-step, rows-end}
 use Rattle.layout.specs.Ends.{long}
 use Rattle.image.specs.Handed.{handed}

@@ -4,13 +4,12 @@ use native.Mathlib.Numerals.{add-one}
 use native.Mathlib.Nat.{sub-zero}
 use native.Mathlib.Omega.{arith}
 use mathlib.Core.Path.{_≡_, sym, ap, _∙_}
-use mathlib.Core.Bool.{Bool, true, false, _&&_}
+use mathlib.Core.Bool.{Bool, true, false, _&&_, and-assoc, and-true}
 use mathlib.Core.List.{List, [], _∷_}
 use lib.Dec.{eqb, leb, ltb}
 use borrow.Author.Tests.{eq-eqb, ne-eqb, lt-ltb, le-leb, lt-leb}
 use Rattle.model.specs.declared.Row.{Row}
 use Rattle.model.specs.Image.{first, unless, rowAt, rowSlots, tiersOf, keepRow, tierCheck, tierChecks, rising, schemaCheck, schemaChecks}
-use Rattle.rows.specs.Tests.{and-assoc, and-true}
 use Rattle.rows.specs.First.{first-stop, first-on, first-one}
 use Rattle.rows.specs.Rows.{rowsTo, rows-step, rows-end}
 use Rattle.schema.specs.declared.First.{First}

@@ -1,2 +1,0 @@
--- Laws of `&&`, the library's.
-pub use mathlib.Core.Bool.{and-assoc, and-true}
