@@ -31,7 +31,7 @@ module _ (p : List ℕ) (l : Lent) (accepted : createCheck p (l .image) ≡ 0) w
 
   -- ---- each max series fits its field where the plan is bytes, and where the image opens
 
-  pub low-bytes : AllBytes p → (i : ℕ) → i < rowCount p → rowAt p i .series < 2 ^ 32
+  low-bytes : AllBytes p → (i : ℕ) → i < rowCount p → rowAt p i .series < 2 ^ 32
   unfolding rowAt
   low-bytes b i h = get-low 4 p (rowPlace i + 28) b
 
@@ -43,9 +43,6 @@ module _ (p : List ℕ) (l : Lent) (accepted : createCheck p (l .image) ≡ 0) w
   module _ (low : (i : ℕ) → i < rowCount p → rowAt p i .series < 2 ^ 32) where
     pub good-created : Good (creation p l .image)
     good-created = rw image-is (good-fresh p (drop (imageLength p) (l .image)) plan-is low)
-
-    pub created-opens : openCheck (creation p l .image) ≡ 0
-    created-opens = open-good (creation p l .image) good-created
 
     -- the plan's rows, but for place, mark and hash
     pub created-like : Like (creation p l .image) p
@@ -80,3 +77,7 @@ module _ (p : List ℕ) (l : Lent) (accepted : createCheck p (l .image) ≡ 0) w
         let t = plan-tier p plan-is i h in
         rw (created-ring i h)
         (cell-fresh (r .hash) (rowSlots r) (r .series) (r .interval) (omega (arith, t .few-slots)) (low i h) (omega (arith, t .interval-low)) c j hc hj)
+
+  -- what creation makes of a plan in bytes opens
+  pub created-opens : AllBytes p → openCheck (creation p l .image) ≡ 0
+  created-opens b = open-good (creation p l .image) (good-created (low-bytes b))

@@ -162,9 +162,6 @@ module _ (p s : List ℕ) (fits : 32 ≤ length p) where
   unfolding bytes
   zeros t = put-splice 8 t 24 0
 
-  pub length-image : length (freshImage p) ≡ imageLength p
-  length-image = ap length (sym fresh-is) ∙ parts-long
-
   pub image-made : {n l : ℕ} {x1 x2 x3 x4 x5 : List ℕ} → imageLength p ≤ length s → n ≡ get 4 p 12 → l ≡ imageLength p → x1 ≡ splice s 0 (take 16 p) → x2 ≡ put 8 x1 16 l
       → x3 ≡ put 8 x2 24 0 → x4 ≡ splice x3 32 (allRows (placedRows (32 + 64 * n) (rowsTo p n 0))) → x5 ≡ splice x4 (32 + 64 * n) (freshSlabs (rowsTo p n 0))
       → x5 ≡ freshImage p ++ drop (imageLength p) s

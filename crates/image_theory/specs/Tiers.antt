@@ -177,11 +177,6 @@ module _ (l : Lent) (p : Shape (l .image)) (one : schemas (l .image) ≡ 1) wher
   unfolding rowNo
   rowNo-one h j = rw (first-one h) (zero-add j)
 
-  pub tier-one : (i : ℕ) → i < rowCount (l .image) → rowAt (l .image) i .tier ≡ i
-  tier-one i h =
-      let e : firstRow 0 (rows (l .image)) + rowAt (l .image) i .tier ≡ i = rw (schema-one i h) at (own (l .image) p i h .number-is) in
-      omega (arith, first-one (omega arith))
-
   pub series-one : (i : ℕ) → i < rowCount (l .image) → seriesOf (tiers l 0) ≡ rowAt (l .image) i .series
   unfolding tiers
   series-one i h = rw (schema-one i h) at (own (l .image) p i h .series-is)

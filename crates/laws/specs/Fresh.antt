@@ -5,7 +5,7 @@ use mathlib.Core.Path.{_≡_, refl, _∙_}
 use mathlib.Core.List.{List, [], _∷_}
 use lib.ListN.{length, length-append, length-replicate}
 use Rattle.model.specs.declared.Row.{Row}
-use Rattle.model.specs.Layout.{directory, stampsBehind, columnBehind, columnAt, slabLength, copies, freshHead, freshSlab}
+use Rattle.model.specs.Layout.{stampsBehind, columnBehind, columnAt, slabLength, copies, freshHead, freshSlab}
 use Rattle.model.specs.Image.{rowSlots, rowLength, slabsEnd, placedRow, placedRows, rowBytes, allRows, freshSlabs}
 use Rattle.laws.specs.Bytes.{length-bytes}
 

@@ -15,7 +15,7 @@ use Rattle.supposition.specs.Needed.{Needed-defs, clauses, conj, kept, o
 
 -- ---- the schedule
 
--- asked by the request, not needed here: a run in the first coarsest interval; no run before the first sample; no run in the middle of a tick, after column 0's
+-- supposed by change 2026-01, not needed here: a run in the first coarsest interval; no run before the first sample; no run in the middle of a tick, after column 0's
 -- sample and before column 1's
 unfoldable pub spared : List (ℕ → Situation)
 spared =
@@ -34,7 +34,7 @@ kept-all-the-same = tt
 
 -- ---- the rings
 
--- asked by the request, not needed here: a coarsest ring that spans two coarsest intervals. One slot holds the window at 4 alone
+-- supposed by change 2026-01, not needed here: a coarsest ring that spans two coarsest intervals. One slot holds the window at 4 alone
 unfoldable pub oneSlot : ℕ → Situation
 oneSlot = on (small 4 1) (off 2 1 ∷ consolidateCall ∷ off 3 3 ∷ off 4 9 ∷ off 5 27 ∷ [])
 
