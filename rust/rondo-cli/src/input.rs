@@ -35,16 +35,20 @@ fn is_csv(line: &str) -> bool {
     line.contains(',') && !plain
 }
 
-/// Standard input as text.
+/// Standard input as text, in lines that end with a line feed.
 pub fn text() -> Done<String> {
     let mut bytes = Vec::new();
     let input = |e: io::Error| Failure { status: FILE, words: format!("standard input: {}", plain(&e)) };
     io::stdin().lock().read_to_end(&mut bytes).map_err(input)?;
-    String::from_utf8(bytes).map_err(|e| {
+    let text = String::from_utf8(bytes).map_err(|e| {
         let good = e.utf8_error().valid_up_to();
         let line = e.as_bytes()[..good].iter().filter(|b| **b == b'\n').count() + 1;
         Failure::refused(format!("line {line}: it is not text in UTF-8; nothing is stored"))
-    })
+    })?;
+    match (1..).zip(text.lines()).find(|(_, line)| line.trim_end().contains('\r')) {
+        Some((line, _)) => Err(bad(line, "a carriage return stands within it; end lines with a line feed")),
+        None => Ok(text),
+    }
 }
 
 fn bad(line: u64, why: &str) -> Failure {
@@ -135,7 +139,7 @@ type Record<'a> = Vec<Cow<'a, str>>;
 /// The fields of one line. A line is a record, so that the line's number is known.
 fn csv_record(text: &str) -> Result<Record<'_>, String> {
     // making a reader takes longer than reading a line, and a line without quotes needs none
-    if !text.bytes().any(|b| b == b'"' || b == b'\r') {
+    if !text.contains('"') {
         return Ok(text.split(',').map(|field| field.trim().into()).collect());
     }
     read_record(text)

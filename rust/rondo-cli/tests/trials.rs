@@ -155,9 +155,18 @@ fn lines() {
         ("line 2: refusal 11, InvalidHandle: there is no schema 1; there are 0 to 0", "0 0 20s 1\n1 0 21s 1\n"),
         ("line 2: refusal 11, InvalidHandle: schema 0 has no column 2; it has 0 to 1", "0,0,20s,1\n0,2,21s,1\n"),
         ("line 3: refusal 13, InvalidTimestamp", "stamp,value\n20s,1\n0s,1\n"),
+        ("line 1: a carriage return stands within it; end lines with a line feed", "0,0,20s,1\r0,0,21s,2\r0,0,22s,3\r"),
+        ("line 1: a carriage return", "stamp,value\r20s,1\r21s,2\r"),
+        ("line 2: a carriage return", "0,0,20s,1\r\n\"0\",0,21s,2\r0,0,22s,3\r\n"),
+        ("line 1: a carriage return", "0 0 20s 1\r0 0 21s 2\r"),
+        ("line 2: a carriage return", "0 0 20s 1\n# none\r0 0 21s 2\n"),
     ] {
         folder.bad_with(1, has, "record a.img", text);
         folder.bad_with(1, has, "import a.img", text);
+    }
+    // at a line's end carriage returns are no matter
+    for text in ["0 0 20s 1\r\n0 0 21s 2\r", "0,0,20s,1\r\r\n\"0\",0,21s,2\r"] {
+        assert_eq!(folder.good_with("record a.img", text), "recorded, samples: 2\n");
     }
     // every line is read before one is recorded
     folder.bad_with(1, "line 3: STAMP cannot be read from 'x'", "record a.img", "0 0 20s 1\n0 0 0s 1\n0 0 x 1\n");
