@@ -11,7 +11,7 @@ const DAMAGED: &str = "it is damaged, or no image; take a copy of it that checks
 pub fn image(bytes: &[u8], refusal: Refusal) -> String {
     let found = match refusal {
         Refusal::BadImage => header(bytes).or_else(|| shape(bytes)).or_else(|| placed(bytes)),
-        Refusal::CorruptedSlab => slabs(bytes).or_else(|| late_stamp(bytes)),
+        Refusal::CorruptedSlab => slabs(bytes),
         other => tiers(bytes, other),
     };
     format!("{}; {DAMAGED}", found.unwrap_or_else(|| refusal.to_string()))
@@ -120,16 +120,6 @@ fn slabs(bytes: &[u8]) -> Option<String> {
         let cursor = row.cursor(bytes);
         if u64::from(cursor) >= row.slots() {
             return Some(format!("slab of row {i}, field cursor: {cursor} is not below {}, the slots", row.slots()));
-        }
-    }
-    None
-}
-
-/// A stamp of 2^63 or more, which a run refuses.
-fn late_stamp(bytes: &[u8]) -> Option<String> {
-    for (i, row) in table::rows(bytes).iter().enumerate() {
-        if let Some(slot) = (0..row.slots()).find(|slot| row.stamp(bytes, *slot) >= 1 << 63) {
-            return Some(format!("slab of row {i}, slot {slot}: the stamp is 2^63 ns or more"));
         }
     }
     None

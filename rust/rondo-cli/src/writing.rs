@@ -107,7 +107,8 @@ pub fn consolidate(name: &Path, wait: u64) -> Done<String> {
 
 /// Brings the coarser tiers up to date, or says why that is refused.
 pub fn run(name: &Path, store: &mut Store) -> Done<u64> {
+    let rows = table::rows(store.image());
     store
         .consolidate()
-        .map_err(|r| refusal(r, &refused_run::place(store.image(), r)).after(name.display()).and("the file is as it was"))
+        .map_err(|r| refusal(r, &refused_run::place(&rows, store, r)).after(name.display()).and("the file is as it was"))
 }

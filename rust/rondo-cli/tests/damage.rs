@@ -104,7 +104,12 @@ fn a_stamp_that_is_too_late() {
     // slot 3's stamp in the finest ring: opening takes it, a run does not
     damaged(&folder, &good, 160 + 64 + 8 + 8 * 3 + 7, &[0x80]);
     assert_eq!(folder.good("check damaged.img"), "good\n");
-    folder.bad(1, "refusal 10, CorruptedSlab: slab of row 0, slot 3", "consolidate damaged.img");
+    let why =
+        "the stamp is 2^63 ns or more, which a run does not take, though opening does; it goes when its slot is written again";
+    let said = format!("refusal 10, CorruptedSlab: slab of row 0, slot 3: {why}; the file is as it was");
+    folder.bad(1, &said, "consolidate damaged.img");
+    folder.good("record damaged.img 0 0 63s 1");
+    folder.good("consolidate damaged.img");
 }
 
 #[test]

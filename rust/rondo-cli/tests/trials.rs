@@ -232,6 +232,38 @@ fn runs() {
     assert_eq!(folder.good("consolidate s.img"), "consolidated, values written: 1\n");
 }
 
+/// What a run does not read, or not so, is not what it is refused by.
+#[test]
+fn runs_by_the_rules() {
+    let folder = Folder::new();
+    for (plan, lines, has) in [
+        // min does not add
+        ("1min tier 10s 1h min tier 1min 1h sum", "0 0 60s 1.5e308\n0 0 61s 1.5e308\n0 0 70s 1.5e308\n", "row 2, column 0"),
+        // nan is no value
+        (
+            "1min tier 10s 1h average tier 1min 1h average",
+            "0 0 5s nan\n0 0 35s 1\n",
+            "slab of row 1, slot 3: the sample at 30s",
+        ),
+        // in slot order the window at 20s is beyond the greatest number, in reading order it is not
+        (
+            "30s tier 20s 1h sum",
+            "0 0 28s 1.5e308\n0 0 29s -1.5e308\n0 0 30s 1.5e308\n0 0 41s 1.5e308\n0 0 42s 1.5e308\n",
+            "row 1, column 0, window 1970-01-01T00:00:40Z",
+        ),
+    ] {
+        folder.good(&format!("create r.img series 1 tier 1s {plan}"));
+        folder.good_with("record r.img", lines);
+        folder.bad(1, has, "consolidate r.img");
+        fs::remove_file(folder.file("r.img")).unwrap();
+    }
+    // what lies before the mark's window is not read
+    folder.good("create r.img series 1 tier 1s 10min tier 10s 1h sum");
+    folder.good_with("import r.img", "0 0 90s 1\n");
+    folder.good_with("record r.img", "0 0 60s 1.5e308\n0 0 61s 1.5e308\n0 0 100s 1.5e308\n0 0 101s 1.5e308\n");
+    folder.bad(1, "row 1, column 0, window 1970-01-01T00:01:40Z", "consolidate r.img");
+}
+
 /// Files that are no images, and names that stand in the way of none.
 #[test]
 fn files() {
