@@ -146,7 +146,7 @@ fn tier(words: &[&str]) -> Option<TierConfig> {
 }
 
 fn put(bytes: &mut [u8], at: usize, number: &[u8]) -> Option<()> {
-    bytes.get_mut(at..at + number.len())?.copy_from_slice(number);
+    bytes.get_mut(at..at.checked_add(number.len())?)?.copy_from_slice(number);
     Some(())
 }
 

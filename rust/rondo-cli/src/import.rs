@@ -39,15 +39,16 @@ fn newest(store: &Store) -> Vec<Option<u64>> {
 /// Records the samples, and makes a run before each that begins a coarsest interval and at the end. Answers how many runs.
 fn in_order(name: &Path, store: &mut Store, samples: &[Sample], mut newest: Vec<Option<u64>>) -> Done<u64> {
     let rows = table::rows(store.image());
-    let coarsest: Vec<u64> =
-        (0..newest.len()).map(|s| table::tiers(&rows, s as u32).last().map_or(1, |t| t.interval)).collect();
+    // a schema of one tier has none: there is nothing to consolidate
+    let coarsest: Vec<Option<u64>> =
+        (0..newest.len()).map(|s| table::tiers(&rows, s as u32).iter().skip(1).map(|t| t.interval).max()).collect();
     let mut runs = 0;
     let mut progress = Progress::new(samples.len());
     for tick in samples.chunk_by(|a, b| a.stamp == b.stamp) {
         let begins = |sample: &Sample| {
             let schema = sample.schema as usize;
             let last = newest.get(schema).copied().flatten();
-            last.is_some_and(|last| last / coarsest[schema] != sample.stamp / coarsest[schema])
+            last.is_some_and(|last| coarsest[schema].is_some_and(|coarsest| last / coarsest != sample.stamp / coarsest))
         };
         if tick.iter().any(begins) {
             run(name, store)?;

@@ -154,6 +154,7 @@ fn a_bad_dump_is_refused_by_its_line() {
     bad("line 3: a tier's words", &dump.replace("none", "some"));
     bad("refusal 10, CorruptedSlab: slab of row 0, field cursor", &dump.replace("0ns 10\n", "0ns 60\n"));
     bad("refusal 4, InvalidTierConfig", &dump.replace("tier 1000000000ns", "tier 0ns"));
+    bad("line 6: OFFSET or VALUE", &dump.replace("end", "byte 18446744073709551615 1\nend"));
     bad(
         "line 5: OFFSET",
         &dump.replace("end", "byte x 1\nend").replace("tier 10000000000ns 600000000000ns average 0ns 0\n", ""),
@@ -194,6 +195,16 @@ fn two_hours_of_a_clock() {
     let used: Vec<&str> = shown.lines().skip(2).map(|line| line.split_whitespace().nth(7).unwrap()).collect();
     assert_eq!(used, ["7200", "120", "2"]);
     assert_eq!(folder.good("check clock.img"), "good\n");
+}
+
+#[test]
+fn a_schema_of_one_tier_sets_no_schedule() {
+    let folder = Folder::new();
+    folder.good("create a.img series 1 tier 1s 1h");
+    assert!(folder.good_with("import a.img", &feed(1, 101)).starts_with("imported, samples: 100, runs: 1\n"));
+    folder.good("create b.img series 1 tier 1s 1h schema series 1 tier 1s 2h tier 1h 1d average");
+    let lines: String = (3600..7300).map(|t| format!("0 0 {t}s 1\n1 0 {t}s 1\n")).collect();
+    assert!(folder.good_with("import b.img", &lines).starts_with("imported, samples: 7400, runs: 2\n"));
 }
 
 #[test]
