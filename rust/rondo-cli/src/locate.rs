@@ -81,11 +81,16 @@ fn shape(bytes: &[u8]) -> Option<String> {
     None
 }
 
+/// The length of the image that rows make.
+fn total(rows: &[Row]) -> u128 {
+    (HEADER + ROW * rows.len()) as u128 + rows.iter().map(Row::slab_length).sum::<u128>()
+}
+
 /// What is wrong in total length, slab offsets, slab lengths; or the file is cut short.
 fn placed(bytes: &[u8]) -> Option<String> {
     let rows = table::rows(bytes);
     let mut end = (HEADER + ROW * rows.len()) as u128;
-    let total = end + rows.iter().map(Row::slab_length).sum::<u128>();
+    let total = total(&rows);
     if u128::from(u64_at(bytes, 16)) != total {
         return Some(format!("header, field total length: {} where the rows make {total}", u64_at(bytes, 16)));
     }
@@ -134,7 +139,7 @@ fn tiers(bytes: &[u8], refusal: Refusal) -> Option<String> {
             Some(format!("schema {empty} has no tier: give it one"))
         }
         Refusal::LayoutTooLarge => {
-            let total: u128 = rows.iter().map(Row::slab_length).sum();
+            let total = total(&rows);
             Some(format!("the image would have {total} bytes, and 2^40 is the most: give fewer series or shorter retentions"))
         }
         _ => rows.iter().enumerate().find_map(|(i, row)| {

@@ -4,7 +4,7 @@ use rondo::{ConsolidationFn, MAX_SCHEMAS, MAX_TIERS, Plan, TierConfig};
 
 use crate::failure::{Done, Failure};
 use crate::table::FUNCTIONS;
-use crate::time;
+use crate::{input, time};
 
 /// The words that are left, and how to say what was expected.
 struct Words<'a> {
@@ -38,7 +38,8 @@ pub fn read(words: &[String]) -> Done<Plan> {
     loop {
         words.word("series")?;
         let text = words.next("a number of series")?;
-        let series = text.parse().map_err(|_| Failure::usage(format!("'{text}': expected a number of series")))?;
+        let series = input::number(text).ok().and(text.parse().ok());
+        let series = series.ok_or_else(|| Failure::usage(format!("'{text}': expected a number of series")))?;
         let tiers = tiers(&mut words)?;
         plan = plan.schema(series, hash(series, &tiers), &tiers);
         if plan.schema_count() > MAX_SCHEMAS {

@@ -122,6 +122,7 @@ fn plans() {
         (2, "'tier': expected the word series", "tier 1s 1h"),
         (2, "'4294967296': expected a number of series", "series 4294967296 tier 1s 1h"),
         (2, "'1.0': expected a number of series", "series 1.0 tier 1s 1h"),
+        (2, "'+1': expected a number of series", "series +1 tier 1s 1h"),
         (2, "'schema': expected the word tier", "series 1 schema"),
         (2, "'1s': expected the word tier", "series 1 1s 1h"),
         (2, "'1': expected an interval: a number needs its unit", "series 1 tier 1 1h"),
@@ -135,7 +136,8 @@ fn plans() {
         (1, "refusal 4, InvalidTierConfig: row 1, field interval", "series 1 tier 1s 1h tier 9223372036854775808ns 1h"),
         (1, "refusal 6, TiersNotOrdered: row 1", "series 1 tier 1s 1h tier 1s 1h average"),
         (1, "refusal 3, InvalidMaxSeries: row 1", "series 1 tier 1s 9s schema series 0 tier 1s 9s"),
-        (1, "refusal 8, LayoutTooLarge", "series 4294967295 tier 1s 1d"),
+        // 32 + 64 + 64 + 4 m + 8 n + 8 n m
+        (1, "refusal 8, LayoutTooLarge: the image would have 2968698574864540 bytes", "series 4294967295 tier 1s 1d"),
     ] {
         folder.bad(status, has, &format!("create b.img {plan}"));
     }
