@@ -8,7 +8,7 @@ use std::process::{Command, Stdio};
 use std::thread;
 use std::time::{Duration, Instant};
 
-use shared::{Folder, RONDO, Random, Said, check_bad, finish, leftovers, start};
+use shared::{Folder, RONDO, Random, Said, check_bad, finish, leftovers, skip, start};
 
 const PLAN: &str = "series 8 tier 1s 1h tier 1min 1d average";
 
@@ -225,9 +225,8 @@ fn rights_of_another_user() {
         command.args(["--reuid=65534", "--regid=65534", "--clear-groups", "./rondo"]).args(words).current_dir(&folder.path);
         finish(start(command), b"")
     };
-    if as_other(&["version"]).status != 0 {
-        println!("not tried: the command cannot be run as another user");
-        return;
+    if Command::new("setpriv").arg("--version").output().is_err() || as_other(&["version"]).status != 0 {
+        return skip("the command cannot be run as another user by setpriv");
     }
     for words in [&["check", "a.img"][..], &["record", "a.img", "0", "0", "10s", "1"]] {
         check_bad(&as_other(words), 3, "a.img: Permission denied", words);
@@ -256,12 +255,22 @@ fn output_that_fails() {
         assert_eq!(done.status.code(), Some(3), "{words:?}: {err}");
         assert!(err.contains("standard output: No space left on device") && err.lines().count() == 1, "{err}");
     }
-    // a reader that goes away
+}
+
+#[test]
+fn a_reader_that_goes_away() {
+    let folder = image();
+    let lines: String = (3600..7200).map(|t| format!("0 0 {t}s 1\n")).collect();
+    folder.good_with("record a.img", &lines);
+    let words = ["query", "a.img", "0", "0", "0"];
+    // more than a pipe holds, so that the command is still writing
+    assert!(folder.good(&words.join(" ")).len() > 2 * 65536);
     let mut command = folder.command();
-    let mut child = command.args(["completions", "bash"]).stdout(Stdio::piped()).stderr(Stdio::piped()).spawn().unwrap();
+    command.args(words);
+    let mut child = start(command);
     drop(child.stdout.take());
-    let done = child.wait_with_output().unwrap();
-    assert!(done.stderr.is_empty());
+    let said = finish(child, b"");
+    assert!(said.status == 3 && said.err.is_empty(), "{said:?}");
 }
 
 #[test]
@@ -270,8 +279,7 @@ fn a_full_disk() {
     fs::create_dir(folder.file("disk")).unwrap();
     let mount = Command::new("mount").args(["-t", "tmpfs", "-o", "size=1m", "none"]).arg(folder.file("disk")).output();
     if !mount.is_ok_and(|m| m.status.success()) {
-        println!("not tried: no disk can be mounted");
-        return;
+        return skip("no disk can be mounted");
     }
     let tried = std::panic::catch_unwind(|| {
         folder.good("create disk/a.img series 8 tier 1s 9000s");
@@ -311,8 +319,7 @@ fn file_and_folder_are_synced() {
     let folder = Folder::new();
     let create = format!("create a.img {PLAN}");
     let Some(created) = traced(&folder, &create) else {
-        println!("not tried: there is no `strace` that works");
-        return;
+        return skip("there is no strace that works");
     };
     assert_eq!(created, ["fsync file", "linkat", "fsync folder"]);
     for words in ["record a.img 0 0 60s 1", "consolidate a.img"] {

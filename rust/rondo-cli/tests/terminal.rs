@@ -4,7 +4,7 @@ mod shared;
 
 use std::process::{Command, Stdio};
 
-use shared::{Folder, RONDO};
+use shared::{Folder, RONDO, skip};
 
 /// What the command writes on a terminal, made by `script`.
 fn on_a_terminal(folder: &Folder, words: &str) -> Option<String> {
@@ -25,8 +25,7 @@ fn colours_and_progress() {
         assert!(!folder.good(words).contains('\x1b'), "{words}");
     }
     let Some(shown) = on_a_terminal(&folder, "show a.img") else {
-        println!("not tried: there is no `script`");
-        return;
+        return skip("there is no script");
     };
     assert!(shown.contains("\x1b[1m#"), "{shown}");
     let told = on_a_terminal(&folder, "import a.img < lines").unwrap();

@@ -143,6 +143,12 @@ pub fn leftovers(folder: &Path) -> Vec<String> {
     names.filter(|name| name.starts_with(".rondo-")).collect()
 }
 
+/// What cannot be tried here fails, unless RONDO_SKIP is set; then the run says it, whatever output it keeps.
+pub fn skip(why: &str) {
+    assert!(std::env::var_os("RONDO_SKIP").is_some(), "{why}; RONDO_SKIP=1 lets this be skipped");
+    let _ = writeln!(std::io::stderr(), "skipped: {why}");
+}
+
 /// Numbers that look random, from a seed.
 pub struct Random(pub u64);
 
