@@ -139,9 +139,13 @@ pub fn create(name: &Path, bytes: &[u8]) -> Done {
     match fs::hard_link(&fresh.path, &real) {
         Ok(()) => drop(fresh),
         Err(e) if e.kind() == ErrorKind::AlreadyExists => return Err(exists(name)),
-        // a disk without hard links
+        // a disk without hard links: the name is taken by an empty file first
         Err(_) => {
-            fs::rename(&fresh.path, &real).map_err(fail)?;
+            OpenOptions::new().write(true).create_new(true).open(&real).map_err(fail)?;
+            if let Err(e) = fs::rename(&fresh.path, &real) {
+                let _ = fs::remove_file(&real);
+                return Err(fail(e));
+            }
             fresh.done();
         }
     }

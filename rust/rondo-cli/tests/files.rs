@@ -329,6 +329,34 @@ fn file_and_folder_are_synced() {
 }
 
 #[test]
+fn a_disk_without_hard_links() {
+    let folder = Folder::new();
+    if traced(&folder, "version").is_none() {
+        return skip("there is no strace that works");
+    }
+    // each link fails, half a second late
+    let create = |name: &str| {
+        let mut command = Command::new("strace");
+        command.args(["-f", "-qq", "-o", "/dev/null", "-e", "inject=linkat:error=EPERM:delay_enter=500000", RONDO]);
+        command.args(["create", name]).args(PLAN.split(' ')).current_dir(&folder.path);
+        start(command)
+    };
+    assert_eq!(finish(create("a.img"), b"").status, 0);
+    assert_eq!(folder.good("check a.img"), "good\n");
+    // a file of that name, made meanwhile, stays
+    let child = create("b.img");
+    let waiting = |_: &u32| {
+        thread::sleep(Duration::from_millis(1));
+        !leftovers(&folder.path).is_empty()
+    };
+    assert!((0..10_000).find(waiting).is_some());
+    fs::write(folder.file("b.img"), "mine").unwrap();
+    check_bad(&finish(child, b""), 3, "b.img: exists already", &["create"]);
+    assert_eq!(folder.bytes("b.img"), b"mine");
+    assert!(leftovers(&folder.path).is_empty());
+}
+
+#[test]
 fn of_eight_creations_one_is_done() {
     let folder = Folder::new();
     for round in 0..10 {
