@@ -12,7 +12,8 @@ const ABOUT: &str = "Keeps image files: time series in ring slabs, by the proved
 const AFTER: &str = "\
 Times are dates (2026-11-17T08:30:00Z), now, now-2h, or a number with its unit: ns us ms s min h d.
 Values are decimal numbers (1.5, -2e-9), nan, or 0x and 16 hex digits.
-Exit status: 0 done; 1 refused; 2 wrong usage; 3 the file or the output. Standard error then has one line.";
+Exit status: 0 done; 1 refused; 2 wrong usage; 3 the file or the output. Standard error then has one line,
+or none where the reader of the output went away.";
 
 #[derive(Parser)]
 #[command(name = "rondo", version, about = ABOUT, after_help = AFTER)]
