@@ -110,6 +110,17 @@ fn a_stamp_that_is_too_late() {
     folder.bad(1, &said, "consolidate damaged.img");
     folder.good("record damaged.img 0 0 63s 1");
     folder.good("consolidate damaged.img");
+    // in a last tier, here row 1, a run does not read it
+    let schema = "series 1 tier 1s 9s tier 3s 9s average";
+    folder.good(&format!("create two.img {schema} schema {schema}"));
+    let mut bytes = folder.bytes("two.img");
+    for row in [1, 2] {
+        let field = 32 + 64 * row + 32;
+        let slab = u64::from_le_bytes(bytes[field..field + 8].try_into().unwrap()) as usize;
+        bytes[slab + 64 + 4 + 7] = 0x80;
+    }
+    fs::write(folder.file("two.img"), bytes).unwrap();
+    folder.bad(1, "refusal 10, CorruptedSlab: slab of row 2, slot 0", "consolidate two.img");
 }
 
 #[test]
