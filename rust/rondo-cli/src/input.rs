@@ -45,7 +45,9 @@ pub fn text() -> Done<String> {
         let line = e.as_bytes()[..good].iter().filter(|b| **b == b'\n').count() + 1;
         Failure::refused(format!("line {line}: it is not text in UTF-8; nothing is stored"))
     })?;
-    match (1..).zip(text.lines()).find(|(_, line)| line.trim_end().contains('\r')) {
+    // most text has none at all, which is found sooner than lines are
+    let within = || (1..).zip(text.lines()).find(|(_, line)| line.trim_end().contains('\r'));
+    match text.contains('\r').then(within).flatten() {
         Some((line, _)) => Err(bad(line, "a carriage return stands within it; end lines with a line feed")),
         None => Ok(text),
     }
