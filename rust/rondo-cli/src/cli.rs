@@ -27,7 +27,7 @@ pub struct Cli {
 
 #[derive(Subcommand)]
 pub enum Command {
-    /// Makes a new image from a plan, and says where the plan does not meet what the third demand supposes
+    /// Makes a new image from a plan, and says where the promise on coarser tiers (the third demand) does not cover the plan
     Create {
         /// The image file
         #[arg(value_name = "FILE")]

@@ -11,7 +11,7 @@ pub fn of_plan(head: &[u8]) -> Vec<String> {
     let rows = table::rows(head);
     let mut notes = Vec::new();
     if table::schemas(head) != 1 {
-        notes.push(format!("the third demand speaks of one schema, and there are {}", table::schemas(head)));
+        notes.push(format!("the promise is about one schema, and there are {}", table::schemas(head)));
     }
     for schema in 0..table::schemas(head) {
         let tiers = table::tiers(&rows, schema);

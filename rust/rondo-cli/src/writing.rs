@@ -33,7 +33,7 @@ pub fn add_notes(report: &mut String, notes: &[String]) {
     if notes.is_empty() {
         return;
     }
-    report.push_str("the third demand does not cover this, because of:\n");
+    report.push_str("the promise on coarser tiers (the third demand) does not cover this, because of:\n");
     notes.iter().for_each(|note| report.push_str(&format!("  {note}\n")));
 }
 
