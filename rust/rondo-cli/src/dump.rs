@@ -94,6 +94,9 @@ fn built(name: &Path, text: &str) -> Done<Vec<u8>> {
     let rows = table::rows(&bytes);
     let mut row = None;
     for (line, words) in lines(text) {
+        if let Some(word) = words.get(most_words(words[0])) {
+            return Err(bad(line, format!("one word too many: '{word}'")));
+        }
         match words[0] {
             "schema" | "end" => {}
             "tier" => {
@@ -109,6 +112,16 @@ fn built(name: &Path, text: &str) -> Done<Vec<u8>> {
         }
     }
     Ok(bytes)
+}
+
+/// How many words a line has that begins with this one; a slot's are counted with its series.
+fn most_words(first: &str) -> usize {
+    match first {
+        "end" => 1,
+        "schema" | "byte" => 3,
+        "tier" => 6,
+        _ => usize::MAX,
+    }
 }
 
 /// The lines after the first with their numbers and words; empty ones are left out.

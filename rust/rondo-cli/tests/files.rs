@@ -135,6 +135,9 @@ fn leftovers_are_not_in_the_way_and_go() {
 fn mode_and_owner_are_kept() {
     let folder = image();
     let root = fs::metadata(&folder.path).unwrap().uid() == 0;
+    if !root {
+        skip("another owner can be set by root alone");
+    }
     for mode in [0o600, 0o640, 0o666, 0o200 | 0o444] {
         fs::set_permissions(folder.file("a.img"), fs::Permissions::from_mode(mode)).unwrap();
         if root {

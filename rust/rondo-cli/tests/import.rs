@@ -155,6 +155,12 @@ fn a_bad_dump_is_refused_by_its_line() {
     bad("refusal 10, CorruptedSlab: slab of row 0, field cursor", &dump.replace("0ns 10\n", "0ns 60\n"));
     bad("refusal 4, InvalidTierConfig", &dump.replace("tier 1000000000ns", "tier 0ns"));
     bad("line 6: OFFSET or VALUE", &dump.replace("end", "byte 18446744073709551615 1\nend"));
+    for (line, end) in [(2, "0x"), (3, "none 0ns 10"), (6, "byte 70 1")] {
+        let text = dump.replace("end", "byte 70 1\nend");
+        let at = text.find(end).unwrap();
+        let (before, rest) = text.split_at(at + text[at..].find('\n').unwrap());
+        bad(&format!("line {line}: one word too many: 'x'"), &format!("{before} x{rest}"));
+    }
     bad(
         "line 5: OFFSET",
         &dump.replace("end", "byte x 1\nend").replace("tier 10000000000ns 600000000000ns average 0ns 0\n", ""),
