@@ -147,7 +147,7 @@ static inline const char *rondo_refusal_name(uint32_t number) {
 static inline const char *rondo_refusal_words(uint32_t number) {
     static const char *const words[RONDO_ANSWERS] = {
         "the call was carried out",
-        "the plan has no schema, more than 8 schemas, more than 32 tiers, rows out of order or a field that must be 0, or the image's table is damaged, or the image is cut short",
+        "the plan has no schema, more than 8 schemas, more than 32 tiers, rows out of order or a field that should be 0 and is not, or the image's table is damaged, or the image is cut short",
         "a schema has no tier",
         "a schema's greatest number of series is 0",
         "an interval or a retention is 0, or 2^63 ns or more, or the retention is below the interval",

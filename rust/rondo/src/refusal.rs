@@ -118,7 +118,7 @@ impl Refusal {
     const fn words(self) -> &'static str {
         match self {
             Refusal::BadImage => {
-                "the plan has no schema, more than 8 schemas, more than 32 tiers, rows out of order or a field that must be 0, or the image's table is damaged, or the image is cut short"
+                "the plan has no schema, more than 8 schemas, more than 32 tiers, rows out of order or a field that should be 0 and is not, or the image's table is damaged, or the image is cut short"
             }
             Refusal::NoTiers => "a schema has no tier",
             Refusal::InvalidMaxSeries => "a schema's greatest number of series is 0",

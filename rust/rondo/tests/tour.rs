@@ -136,7 +136,6 @@ fn the_same_lines() {
     show(&mut out, again.query(OTHER, 0, EVER.0, EVER.1).unwrap());
     image[0] ^= 1;
     writeln!(out, "damaged: {}", Store::open(&mut image).unwrap_err().number()).unwrap();
-    let expected: Vec<&str> =
-        include_str!("../../../c/expected").lines().filter(|line| !line.starts_with("sixteen")).collect();
+    let expected: Vec<&str> = include_str!("../../../c/expected").lines().filter(|line| !line.starts_with("sixteen")).collect();
     assert_eq!(out.lines().collect::<Vec<_>>(), expected);
 }
