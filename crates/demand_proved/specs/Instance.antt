@@ -10,11 +10,11 @@ use Rattle.model.specs.Cases.{plan}
 use Rattle.demand.specs.Instance.{Instance-defs, tiers, story, did, accepted-plan, suited-plan, history-is, met, quiet}
 use Rattle.demand_proved.specs.Theorem.{proof}
 
-one-schema : schemas (plan tiers) ≡ 1
+pub one-schema : schemas (plan tiers) ≡ 1
 unfolding Instance-defs
 one-schema = refl
 
-three-rows : rowCount (plan tiers) ≡ 3
+pub three-rows : rowCount (plan tiers) ≡ 3
 unfolding Instance-defs
 three-rows = refl
 

@@ -105,7 +105,7 @@ module _ (s : Situation) (h : Supposition s) where
   some-sample : 0 < lastOf xs
   some-sample = ends-run D (events (creation p l) before) [] 0 (unfold lastOf in on-schedule)
 
-  not-zero : 0 < firstOf xs
+  pub not-zero : 0 < firstOf xs
   not-zero = first-pos (openCheck (creation p l .image)) xs recorded some-sample
 
   offsets : all (λ x. isOffset (x .value)) xs ≡ true

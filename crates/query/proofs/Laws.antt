@@ -10,13 +10,13 @@ use Rattle.model.specs.declared.Refusal.{Refusal}
 use Rattle.model.specs.declared.Refusal.the-variants.{InvalidHandle, InvalidTier, InvalidTimeRange}
 use Rattle.model.specs.declared.Queried.the-variants.{Refused}
 use Rattle.model.specs.Words.{numberOf}
-use Rattle.model.specs.Image.{unless, first, rowCount, rows, tiersOf, openCheck}
+use Rattle.model.specs.Image.{unless, first, rowAt, rowCount, rows, tiersOf, openCheck}
 use Rattle.model.specs.Lent.{Lent, tiers, firstRow, rowNo}
-use Rattle.model.specs.Record.{handleOk}
+use Rattle.model.specs.Record.{seriesOf, handleOk}
 use Rattle.model.specs.Query.{QueryReply, found, notFound, queryCheck, autoCheck, choose, answered, queryOn, query, queryAuto, repliedBy}
 use Rattle.laws.specs.Tests.{yes-lt, no-lt}
 use Rattle.image_theory.specs.Good.{good-open}
-use Rattle.image_theory.specs.Tiers.{some-tier}
+use Rattle.image_theory.specs.Tiers.{tier-row, some-tier}
 use Rattle.rows.specs.First.{first-stop, refusal-no}
 use Rattle.lookup.specs.Parts.{finestOf}
 use Rattle.lookup.specs.declared.Finest.the-variants.{At, Missing}
@@ -121,5 +121,12 @@ module _ (s : List ℕ) (k c : ℕ) (h : openCheck s ≡ 0) {i : ℕ} (at : fine
     pub row-low : i + j < 32
     row-low = omega (arith, row-there-too, few-rows s h)
 
+    -- every tier of a schema has its series
+    column-there : c < rowAt s (i + j) .series
+    column-there =
+        let t = tier-row s (good-open s h .shape-is) k j low in
+        let in-schema : c < seriesOf (tiersOf k (rows s)) = handle-in (lentBy s []) k c (handle-at (lentBy s []) k c at .0) .1 in
+        rw finest-is (rw (t .series-is) at in-schema)
+
     pub sought-at : (start end : ℕ) → start < end → SoughtAt s k c j start end (i + j)
-    sought-at start end q = record { there = row-there-too; few-rows = row-low; replies = λ bs. answers s bs k c start end h at j low q refl }
+    sought-at start end q = record { there = row-there-too; few-rows = row-low; column-there = column-there; replies = λ bs. answers s bs k c start end h at j low q refl }

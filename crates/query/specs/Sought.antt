@@ -1,11 +1,11 @@
--- What `seek` leaves: the row that a query reads, or its refusal, whatever the flags. Assumes nothing.
+-- What `seek` leaves: the row that a query reads, which has the column, or its refusal, whatever the flags. Assumes nothing.
 use Prim.Native.Nat.{ℕ, _<_}
 use mathlib.Core.Path.{_≡_}
 use mathlib.Core.Bool.{Bool}
 use mathlib.Core.List.{List}
 use Rattle.model.specs.declared.Refusal.{Refusal}
 use Rattle.model.specs.declared.Queried.the-variants as Q
-use Rattle.model.specs.Image.{rowCount}
+use Rattle.model.specs.Image.{rowAt, rowCount}
 use Rattle.model.specs.Query.{query, answered, found, repliedBy}
 use Rattle.tiers.specs.Reached.{lentBy}
 use Rattle.query.specs.declared.Sought.{Sought}
@@ -15,6 +15,7 @@ use Rattle.query.specs.declared.Sought.the-variants as S
 pub record SoughtAt (s : List ℕ) (k c j start end i : ℕ) : Type 0 where
   pub there : i < rowCount s
   pub few-rows : i < 32
+  pub column-there : c < rowAt s i .series
   pub replies : (bs : List Bool) → found (answered (lentBy s bs) i c j start end) ≡ query (lentBy s bs) k c j start end
 
 abbrev pub SoughtIs : List ℕ → ℕ → ℕ → ℕ → ℕ → ℕ → Sought → Type 0

@@ -15,7 +15,7 @@ pub enum Sought {
 }
 
 // The row of a handle's tier, once opening's check has passed: 11, 14, 15, or the row.
-fn seek(image: &[u8], handle: model::SeriesHandle, tier: u32, start: u64, end: u64) -> Sought
+pub fn seek(image: &[u8], handle: model::SeriesHandle, tier: u32, start: u64, end: u64) -> Sought
     requires { ⌜ openCheck (now image) ≡ 0 ⌝ }
     ensures { λ r. ⌜ SoughtIs (now (image .entry)) (handle .schema) (handle .column) tier start end r ⌝ }
 {

@@ -55,7 +55,7 @@ module _ (l : Lent) (k c start end : ℕ) where
   -- ---- query
 
   module _ (j : ℕ) {a : Answered} (e : query l k c j start end ≡ found a) where
-    query-found : (queryCheck l k c j start end ≡ 0) × (a ≡ answered l (rowNo l k j) c j start end)
+    pub query-found : (queryCheck l k c j start end ≡ 0) × (a ≡ answered l (rowNo l k j) c j start end)
     unfolding query
     query-found = found-is (queryCheck l k c j start end) j e
 

@@ -15,7 +15,12 @@ pub struct Demanded {
 }
 
 // Carries out the calls before a run, the run, and the calls between it and the query. Answers the flags.
-fn carry_all(image: &mut [u8], flags: model::Flags, before: &[u8], between: &[u8]) -> model::Flags
+pub fn carry_all(
+    image: &mut [u8],
+    flags: model::Flags,
+    before: &[u8],
+    between: &[u8],
+) -> model::Flags
     ensures { λ r. ⌜ lentOf (now (image .exit)) r ≡ after (after (lentOf (now (image .entry)) flags) (callsIn (now (before .entry)) ++ consolidateCall ∷ [])) (callsIn (now (between .entry))) ⌝ }
 {
     let recorded = tie_calls::carry_out(image, flags, before);
