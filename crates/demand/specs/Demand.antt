@@ -6,10 +6,11 @@ use mathlib.Core.Bool.{Bool, true, false, not, _&&_, _||_, cond}
 use mathlib.Core.List.{List, [], _∷_, _++_, map}
 use lib.ListN.{length}
 use lib.Dec.{T, leb, ltb, eqb}
-use lib.IntN.{ℤ, pos, negℤ, natAbs, _+ℤ_, _-ℤ_, _*ℤ_}
+use lib.IntN.{ℤ, pos, natAbs, _+ℤ_, _-ℤ_, _*ℤ_}
 use lib.Ieee.{Float, nan, inf, fin, binary64, ofBits, up, down}
 use Rattle.model.specs.declared.Row.{Row}
 use Rattle.model.specs.declared.Point.{Point}
+use Rattle.model.specs.Words.{signed}
 use Rattle.model.specs.Image.{rows, rowAt, rowCount, schemas, rowSlots, createCheck}
 use Rattle.model.specs.Read.{pointsOf}
 use Rattle.model.specs.Lent.{Lent, creation}
@@ -79,11 +80,6 @@ samplesIn (took x ∷ es) = x ∷ samplesIn es
 samplesIn (ran ∷ es) = samplesIn es
 
 -- ---- whole offsets
-
--- a, or -a where the sign is true
-unfoldable pub signed : Bool → ℕ → ℤ
-signed false a = pos a
-signed true a = negℤ (pos a)
 
 -- the whole number that a float stands for, where it stands for one
 unfoldable pub wholePart : Float → ℤ
@@ -267,7 +263,7 @@ ThirdDemand =
     → T (used (s .column) (samples s)) → s .tier < rowCount (s .plan)
     → T (each (finest s) (s .column) (tierInterval s) (s .tier) (samples s) (due s) (answers s))
 
--- names every definition of this module, for a proof by computation: `unfolding Demand-defs`
+-- names every definition of this module, and `signed`, for a proof by computation: `unfolding Demand-defs`
 unfoldable pub Demand-defs : Unit {0}
 unfolding ratioOk averaging lastInterval spanning suited ifAccepted eventsOf events samplesIn signed wholePart wholeWithin isOffset firstOf lastOf ascending all count isAt used ticks gapless scheduled supposed starts begun newestWindows isClosed inWindow sumOf within each handedOut finest coarsest created upToRun afterRun history samples answers tierInterval due
 Demand-defs = tt

@@ -7,7 +7,8 @@ use mathlib.Core.Path.{_≡_, refl, ap}
 use mathlib.Core.Bool.{Bool, true, false}
 use lib.IntN.{ℤ, pos, negsuc, negℤ, natAbs, subℕ, _+ℤ_, _-ℤ_, _*ℤ_}
 use lib.Ieee.{Float, nan, inf, fin, up, down}
-use Rattle.demand.specs.Demand.{signed, within}
+use Rattle.model.specs.Words.{signed}
+use Rattle.demand.specs.Demand.{within}
 use Rattle.laws.specs.Tests.{yes-le, yes-lt, no-lt}
 use Rattle.mean_theory.specs.Exact.{posPart, negPart, Within}
 
@@ -41,11 +42,11 @@ neg-pos : (k : ℕ) → (over (negℤ (pos k)) ≡ 0) × (under (negℤ (pos k))
 neg-pos zero = (refl, refl)
 neg-pos (suc k) = (refl, refl)
 
-is-neg : (z : ℤ) (p n : ℕ) → Is z p n → Is (negℤ z) n p
+pub is-neg : (z : ℤ) (p n : ℕ) → Is z p n → Is (negℤ z) n p
 is-neg (pos a) p n h = omega (arith, neg-pos a)
 is-neg (negsuc a) p n h = omega arith
 
-is-mul : (z : ℤ) (p n e : ℕ) → Is z p n → Is (z *ℤ pos e) (p * e) (n * e)
+pub is-mul : (z : ℤ) (p n e : ℕ) → Is z p n → Is (z *ℤ pos e) (p * e) (n * e)
 is-mul (pos a) p n e h = let f : (a + n) * e ≡ (0 + p) * e = ap (λ (x : ℕ). x * e) h in omega arith
 is-mul (negsuc a) p n e h = let f : (0 + n) * e ≡ (suc a + p) * e = ap (λ (x : ℕ). x * e) h in omega (arith, neg-pos (suc a * e))
 
@@ -54,7 +55,7 @@ unfolding signed
 is-signed false a = omega arith
 is-signed true a = omega (arith, neg-pos a)
 
-abs-le : (z : ℤ) (p n k : ℕ) → Is z p n → 4096 * p ≤ 4096 * n + k → 4096 * n ≤ 4096 * p + k → natAbs z * 4096 ≤ k
+pub abs-le : (z : ℤ) (p n k : ℕ) → Is z p n → 4096 * p ≤ 4096 * n + k → 4096 * n ≤ 4096 * p + k → natAbs z * 4096 ≤ k
 abs-le (pos a) p n k h x y = omega arith
 abs-le (negsuc a) p n k h x y = omega arith
 

@@ -5,3 +5,4 @@ pub mod Recordings
 pub mod Readings
 pub mod Runs
 pub mod Windows
+pub mod Figures

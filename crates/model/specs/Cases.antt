@@ -1,32 +1,32 @@
--- The cases A to L of document 01 as rows of one table, and the theorem that each row holds, by computation.
--- The stores have two series, so that the Rust can run the same rows. Assumes nothing.
-use Prim.Native.Nat.{ℕ, zero, suc, _+_, _*_, _^_}
+-- The cases A to L of document 01 as rows of one table, and the theorem that each row holds, by computation; then the figures of the request 2026-04.
+-- The stores have two series, so that the Rust can run A to L. Assumes nothing.
+use Prim.Native.Nat.{ℕ, zero, suc, _+_, _*_}
 use mathlib.Core.Path.{_≡_, refl}
 use mathlib.Core.Bool.{Bool, true, false}
 use mathlib.Core.List.{List, [], _∷_, _++_, map}
 use lib.ListN.{length, take, replicate}
-use lib.IntN.{pos}
+use lib.IntN.{pos, negℤ}
 use lib.Ieee.{binary64, ofBits, toBits, ofInt, add, div, lt}
 use Rattle.model.specs.declared.Row.{Row}
 use Rattle.model.specs.declared.Point.{Point}
-use Rattle.model.specs.declared.End.{End}
-use Rattle.model.specs.declared.End.the-variants.{At, Missing}
+use Rattle.model.specs.declared.End.the-variants.{At}
 use Rattle.model.specs.declared.ConsolidationFn.{ConsolidationFn}
-use Rattle.model.specs.declared.ConsolidationFn.the-variants.{Average, Min, Max, Last, Sum, Count}
+use Rattle.model.specs.declared.ConsolidationFn.the-variants.{Average}
 use Rattle.model.specs.declared.WindowAnswer.{WindowAnswer}
 use Rattle.model.specs.declared.WindowAnswer.the-variants.{Empty, Number, NothingFinite}
-use Rattle.model.specs.Bytes.{Bytes-defs, bytes, put}
+use Rattle.model.specs.Bytes.{Bytes-defs, bytes}
 use Rattle.model.specs.Words.{Words-defs}
 use Rattle.model.specs.Layout.{Layout-defs, freshValue, stampsAt, columnAt, slabLength}
-use Rattle.model.specs.Image.{Image-defs, rows, rowPlace, rowCount, placedRows, allRows, planCheck, createCheck, openCheck, imageLength, rowSlots}
+use Rattle.model.specs.Image.{Image-defs, rows, rowPlace, rowCount, placedRows, allRows, planCheck, imageLength, rowSlots}
 use Rattle.model.specs.Ring.{Ring-defs}
 use Rattle.model.specs.Read.{Read-defs, full, incomplete}
 use Rattle.model.specs.Window.{Window-defs, heldValue, seen, finites, answerOf}
 use Rattle.model.specs.Lent.{Lent-defs, Lent, creation}
-use Rattle.model.specs.Record.{Record-defs, Entry}
+use Rattle.model.specs.Record.{Record-defs}
 use Rattle.model.specs.Query.{Query-defs}
 use Rattle.model.specs.Consolidate.{Consolidate-defs}
-use Rattle.model.specs.Store.{Store-defs, Call, Done, call, recordCall, batchCall, queryCall, autoCall, consolidateCall, openCall, done, Shown, refusal, writes, points, shown}
+use Rattle.model.specs.Figure.{Figure-defs, panel, service, shows, showsNothing, serves, servesNothing}
+use Rattle.model.specs.Store.{Store-defs, Call, Done, call, after, recordCall, batchCall, queryCall, consolidateCall, openCall, done, Shown, refusal, writes, points, shown}
 
 -- ---- plans, samples, stores
 
@@ -197,7 +197,7 @@ cases =
     ∷ []
 
 unfoldable pub Cases-defs : Unit {0}
-unfolding Bytes-defs Words-defs Layout-defs Image-defs Ring-defs Read-defs Window-defs Lent-defs Record-defs Query-defs Consolidate-defs Store-defs tierOf tier planOf plan num infinity fresh columns lastCall resultOf shownOn result _gives_ seconds three ring10 two rec end64 everything at ofBits toBits ofInt add div lt
+unfolding Bytes-defs Words-defs Layout-defs Image-defs Ring-defs Read-defs Window-defs Lent-defs Record-defs Query-defs Consolidate-defs Figure-defs Store-defs tierOf tier planOf plan num infinity fresh columns lastCall resultOf shownOn result _gives_ seconds three ring10 two rec end64 everything at ofBits toBits ofInt add div lt
 Cases-defs = tt
 
 -- a row holds: what the definitions give is what it says
@@ -208,3 +208,19 @@ Holds (c ∷ cs) = (result (c .ask) ≡ c .reply) × Holds cs
 pub every-case : Holds cases
 unfolding Cases-defs cases
 every-case = (refl, (refl, (refl, (refl, (refl, (refl, (refl, (refl, (refl, (refl, (refl, (refl, (refl, (refl, (refl, (refl, (refl, (refl, (refl, (refl, (refl, (refl, (refl, tt)))))))))))))))))))))))
+
+-- ---- the request 2026-04
+
+-- minus 0.5 shows 0, 1.5 shows 2, minus 2.5 shows minus 2
+pub panel-rounds :
+    map (λ v. panel (after (fresh (ring10 4)) (recordCall 0 0 v 10 ∷ [])) 0 0 0) (0xbfe0_0000_0000_0000 ∷ 0x3ff8_0000_0000_0000 ∷ 0xc004_0000_0000_0000 ∷ [])
+    ≡ shows (pos 0) ∷ shows (pos 2) ∷ shows (negℤ (pos 2)) ∷ []
+unfolding Cases-defs
+panel-rounds = refl
+
+-- E: the stamp at the cursor is 15, with NaN; the last point that is handed out is 40's, and the ends are the ring's. Column 1 has none: no 0, and no ends
+pub figures-of-e :
+    let e = after (fresh (ring10 4)) (rec 10 1 ∷ rec 20 2 ∷ rec 30 3 ∷ rec 40 4 ∷ recordCall 0 0 freshValue 15 ∷ []) in
+    (panel e 0 0 0 ≡ shows (pos 4)) × (service e 0 0 0 ≡ serves 40 (num 4) (At 20) (At 15)) × (panel e 0 1 0 ≡ showsNothing) × (service e 0 1 0 ≡ servesNothing)
+unfolding Cases-defs
+figures-of-e = (refl, refl, refl, refl)

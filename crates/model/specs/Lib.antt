@@ -10,5 +10,6 @@ pub mod Record
 pub mod Query
 pub mod Consolidate
 pub mod Store
+pub mod Figure
 pub mod Cases
 pub mod Refusals
