@@ -106,6 +106,22 @@ static void ask(void) {
            rondo_query(image, size, flags, 0, 0, 0, 5, 5, &answer));
 }
 
+/* The last minute's mean: a whole number for the panel, in full for service tools. Then a value that no panel shows. */
+static void figures(void) {
+    const double beyond = 9007199254740994.0; /* 2^53 + 2 */
+    uint32_t shown = 0;
+    int64_t figure = 0;
+    uint64_t full[5] = { 0 };
+    check("panel", rondo_panel(image, size, flags, 0, 1, 1, &shown, &figure));
+    check("service", rondo_service(image, size, flags, 0, 1, 1, full));
+    printf("panel: %" PRIu32 ", %" PRId64 "; service: %" PRIu64 ", %.6f of second %" PRIu64 ", ring from %" PRIu64 " to %" PRIu64 "\n",
+           shown, figure, full[0], rondo_double(full[2]), full[1] / SECOND, full[3] / SECOND, full[4] / SECOND);
+    check("record", rondo_record(image, size, &flags, 0, 0, rondo_bits(beyond), 14399 * SECOND));
+    printf("beyond 2^53: panel %" PRIu32 ", service %" PRIu32 "\n",
+           rondo_panel(image, size, flags, 0, 0, 0, &shown, &figure),
+           rondo_service(image, size, flags, 0, 0, 0, full));
+}
+
 /* The cursor stands in the last slot: none is above it, and the same points are read from slot 0 on. */
 static void open_again(void) {
     struct rondo_answer answer;
@@ -122,6 +138,7 @@ int main(void) {
     create();
     record();
     ask();
+    figures();
     open_again();
     free(image);
     return 0;

@@ -38,6 +38,14 @@ mod rondo {
             image: *const u8, image_len: usize, flags: u32, schema: u32, column: u32, start: u64, end: u64,
             answer: &mut Answer,
         ) -> u32;
+        pub fn rondo_panel(
+            image: *const u8, image_len: usize, flags: u32, schema: u32, column: u32, tier: u32, shown: &mut u32,
+            figure: &mut i64,
+        ) -> u32;
+        pub fn rondo_service(
+            image: *const u8, image_len: usize, flags: u32, schema: u32, column: u32, tier: u32,
+            figure: &mut [u64; 5],
+        ) -> u32;
         pub fn rondo_next(
             slab: *const u8, slab_len: usize, column: u32, start: u64, end: u64, place: &mut [u64; 2],
             point: &mut [u64; 2],
@@ -112,6 +120,25 @@ impl Store {
             rondo::rondo_query_auto(i.as_ptr(), i.len(), self.flags, 0, column, start, end, &mut a)
         })?;
         Ok(a)
+    }
+
+    /// The panel's figure, and none where there is no point.
+    fn panel(&self, column: u32, tier: u32) -> Result<Option<i64>, u32> {
+        let (i, mut shown, mut figure) = (&self.image, 0, 0);
+        accepted(unsafe {
+            rondo::rondo_panel(i.as_ptr(), i.len(), self.flags, 0, column, tier, &mut shown, &mut figure)
+        })?;
+        Ok((shown != 0).then_some(figure))
+    }
+
+    /// The service figure: stamp, value's pattern, oldest, newest.
+    fn service(&self, column: u32, tier: u32) -> Result<Option<[u64; 4]>, u32> {
+        let (i, mut figure) = (&self.image, [0; 5]);
+        accepted(unsafe {
+            rondo::rondo_service(i.as_ptr(), i.len(), self.flags, 0, column, tier, &mut figure)
+        })?;
+        let [present, words @ ..] = figure;
+        Ok((present != 0).then_some(words))
     }
 
     fn next(&self, a: &mut Answer) -> Option<(u64, f64)> {
@@ -189,6 +216,29 @@ fn show_sixteen(store: &Store, mut answer: Answer) {
     println!("sixteen at a time: {n} points in {calls} calls, mean {:.6}", if n > 0 { sum / n as f64 } else { 0.0 });
 }
 
+/// The last minute's mean: a whole number for the panel, in full for service tools. Then a value that no panel shows.
+fn figures(store: &mut Store) -> Result<(), u32> {
+    let (shown, full) = (store.panel(1, 1)?, store.service(1, 1)?);
+    let [stamp, value, oldest, newest] = full.unwrap_or_default();
+    println!(
+        "panel: {}, {}; service: {}, {:.6} of second {}, ring from {} to {}",
+        shown.is_some() as u32,
+        shown.unwrap_or_default(),
+        full.is_some() as u32,
+        f64::from_bits(value),
+        stamp / SECOND,
+        oldest / SECOND,
+        newest / SECOND,
+    );
+    store.record(0, 9007199254740994.0, 14399 * SECOND)?;
+    println!(
+        "beyond 2^53: panel {}, service {}",
+        store.panel(0, 0).err().unwrap_or(0),
+        store.service(0, 0).err().unwrap_or(0),
+    );
+    Ok(())
+}
+
 fn main() -> Result<(), u32> {
     let mut store = Store::create(&plan(&[(1, 7200, 0), (60, 86_400, 1), (3600, 2_592_000, 1)]))?;
     println!("image of {} bytes", store.image.len());
@@ -217,6 +267,7 @@ fn main() -> Result<(), u32> {
         store.query(0, 3, 5, 5).err().unwrap(),
         store.query(0, 0, 5, 5).err().unwrap(),
     );
+    figures(&mut store)?;
     // the cursor stands in the last slot: none is above it, and the same points are read from slot 0 on
     let again = store.open()?;
     println!("flags {}, opened again {again}", store.flags);

@@ -15,10 +15,10 @@
  * during the call (a thread, an interrupt, DMA: it could end in an illegal instruction). Stamps are
  * nanoseconds. Values are doubles by their 64-bit pattern: rondo_bits and rondo_double convert.
  *
- * Opening, both ways to record, both queries and a run check the table and each ring's header again,
- * some nanoseconds a row, and change nothing before all is good; a reader's step checks its ring's
- * header. So the fast ways are those that do much in a call: a batch for the values of one stamp
- * (rondo_record_batch), and many points a call (rondo_read).
+ * Opening, both ways to record, both queries, both figures and a run check the table and each ring's
+ * header again, some nanoseconds a row, and change nothing before all is good; a reader's step checks
+ * its ring's header. So the fast ways are those that do much in a call: a batch for the values of one
+ * stamp (rondo_record_batch), and many points a call (rondo_read).
  *
  * Stamps: let time begin at the coarsest interval or later. An earlier sample's window would start at
  * 0, so the next run is refused with 13, and each after it until the finer ring has lost the sample.
@@ -26,14 +26,15 @@
  * What it asks of a machine (make check tries each of these):
  * - x86-64 with the System V calling convention, as on Linux; SSE2 and nothing newer.
  * - memset: the one symbol that librondo.a needs (nm -u).
- * - Code: 18,007 bytes with constants, and no data (size librondo.a; the build of 2026-11-17).
+ * - Code: 19,067 bytes with constants, and no data (size librondo.a; the build of 2026-11-17).
  * - Stack: at most RONDO_STACK_SIZE bytes a call, beside memset's own. That build takes 716, the return
  *   address among them: the deepest path of each call, added up from the disassembly (c/tests/stack.awk);
  *   544 is the most that the single-stepped calls took. Up to 4 of them lie below the stack pointer, as
  *   the convention allows: an interrupt on the same stack must leave the 128 bytes below it.
  * - Alignment: none is asked of images, plans and entries; numbers and structs have that of C.
  * - Floating point: averages and sums are computed in the mode that the caller has set. Round to nearest
- *   and do not flush to zero: with flush to zero the mean of 3e-320, 6e-320, 9e-320 is 0.
+ *   and do not flush to zero: with flush to zero the mean of 3e-320, 6e-320, 9e-320 is 0. rondo_panel
+ *   rounds by the value's pattern, in every mode the same.
  *
  * Calls cut short, as by a reset: nothing is proved of them. c/tests/step.c single-steps 63 records, 56
  * batches and 14 runs and looks at the image after each instruction that changed it. In that build:
@@ -67,9 +68,9 @@ extern "C" {
 
 /* These calls. A call, an answer or a struct that changes for a caller raises MAJOR, one that is added MINOR. */
 #define RONDO_VERSION_MAJOR 1
-#define RONDO_VERSION_MINOR 0
+#define RONDO_VERSION_MINOR 1
 #define RONDO_VERSION_PATCH 0
-#define RONDO_VERSION_STRING "1.0.0"
+#define RONDO_VERSION_STRING "1.1.0"
 
 /* The image's bytes: the number in an image's header. Others are refused with 1. */
 #define RONDO_IMAGE_VERSION 1
@@ -113,11 +114,12 @@ enum rondo_answer_number {
     RONDO_INVALID_TIMESTAMP = 13,   /* the stamp is 0 or 2^63 or more */
     RONDO_INVALID_TIER = 14,        /* no such tier */
     RONDO_INVALID_TIME_RANGE = 15,  /* start is not below end */
-    RONDO_NO_CONSOLIDATION_FUNCTION = 16 /* a coarser tier has function 0 */
+    RONDO_NO_CONSOLIDATION_FUNCTION = 16, /* a coarser tier has function 0 */
+    RONDO_OFF_PANEL = 17            /* rondo_panel: the value is beyond 2^53, either way, or infinite */
 };
 
 /* How many answers there are, 0 among them. */
-#define RONDO_ANSWERS 17u
+#define RONDO_ANSWERS 18u
 
 /* An answer's name; "Unknown" for a number that is none. In the caller's code, not in the library. */
 static inline const char *rondo_refusal_name(uint32_t number) {
@@ -139,6 +141,7 @@ static inline const char *rondo_refusal_name(uint32_t number) {
         "InvalidTier",
         "InvalidTimeRange",
         "NoConsolidationFunction",
+        "OffPanel",
     };
     return number < RONDO_ANSWERS ? names[number] : "Unknown";
 }
@@ -163,6 +166,7 @@ static inline const char *rondo_refusal_words(uint32_t number) {
         "the schema has no such tier",
         "the range's start is not below its end",
         "a coarser tier has no function",
+        "the last point's value is beyond 2^53, either way, or infinite",
     };
     return number < RONDO_ANSWERS ? words[number] : "no refusal has this number";
 }
@@ -309,6 +313,34 @@ uint32_t rondo_query(const uint8_t *image, size_t image_len, uint32_t flags,
 uint32_t rondo_query_auto(const uint8_t *image, size_t image_len, uint32_t flags,
                           uint32_t schema, uint32_t column,
                           uint64_t start, uint64_t end, struct rondo_answer *answer);
+
+/*
+ * The panel's figure of a series in a tier: the value of the last point that a query over all time hands
+ * out, as the nearest whole number, of two that are equally near the even one (-0.5 shows 0, 1.5 shows 2,
+ * -2.5 shows -2). 1 into *shown and the number into *figure; where there is no point 0 into *shown, and
+ * *figure is left. Refuses 11, 14, then 17 where there is a point with a value beyond 2^53, either way, or
+ * infinite (rondo_record takes no infinite value, so somebody else wrote it); a refusal leaves both.
+ *
+ * What it costs: no buffer, and a look at the slots from the ring's cursor backward, up to the first with a
+ * point. Where the cursor's slot has one the time does not depend on the number of slots: 18 ns with three
+ * rows, at 3,600 and at 10^6 slots. The worst case of what these calls wrote is a column of NaN, as of a
+ * series that was never recorded, in a ring that has wrapped: 4.0 us at 3,600 slots, 1.1 ms at 10^6. An
+ * image that came from elsewhere may have stamp 2^64 - 1 in every slot: 4.6 us and 1.3 ms.
+ */
+uint32_t rondo_panel(const uint8_t *image, size_t image_len, uint32_t flags,
+                     uint32_t schema, uint32_t column, uint32_t tier,
+                     uint32_t *shown, int64_t *figure);
+
+/*
+ * The same point in full, with the ring's ends, for service tools. Into figure[0] to figure[4]: 1, stamp,
+ * the value's pattern, oldest, newest. Where there is no point figure[0] is 0 and the rest is left. The
+ * point is the last in the order of reading: its stamp need not be the greatest, nor newest, which is the
+ * stamp at the ring's cursor, whatever stands there for this series. Refuses 11, 14, and then leaves all.
+ * It needs no buffer and costs the same, and oldest besides, which is worked out as a query does: past
+ * empty slots at the ring's start, 0.49 us at 3,600 slots and 129 us at 10^6 where all but two are empty.
+ */
+uint32_t rondo_service(const uint8_t *image, size_t image_len, uint32_t flags,
+                       uint32_t schema, uint32_t column, uint32_t tier, uint64_t figure[5]);
 
 /*
  * One step of a reader over a slab: 1, the point into *point and *place moved on; or 0 at the end,

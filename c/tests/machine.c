@@ -1,5 +1,5 @@
 /*
- * What include/rondo.h says of limits, early stamps, alignment and the floating-point mode, tried on the library.
+ * What include/rondo.h says of limits, early stamps, alignment, the floating-point mode and figures, tried on the library.
  * A line for each; ends with 1 if one does not hold.
  */
 #include <stdio.h>
@@ -131,11 +131,64 @@ static void try_modes(void) {
     printf("machine: the mean of 3e-320, 6e-320, 9e-320 is %g, and %g with flush to zero\n", kept, rondo_double(mean(flush, small)));
 }
 
+/* The panel's figure of column 0 in tier 0, after this value was recorded; what stood in *shown and *figure before is a parameter. */
+static uint32_t panel_after(double value, unsigned mode, uint32_t *shown, int64_t *figure) {
+    static uint8_t plan[RONDO_PLAN_SIZE(2)], image[ROOM];
+    uint32_t flags;
+    size_t size = make(plan, image, &flags);
+    hold("record", rondo_record(image, size, &flags, 0, 0, rondo_bits(value), 4 * SECOND) == 0);
+    unsigned was = _mm_getcsr();
+    _mm_setcsr(mode);
+    uint32_t answer = rondo_panel(image, size, flags, 0, 0, 0, shown, figure);
+    _mm_setcsr(was);
+    return answer;
+}
+
+#define COUNT(array) (sizeof (array) / sizeof (array)[0])
+
+static const struct { double value; int64_t shown; } rows[] = {
+    { -0.5, 0 }, { 1.5, 2 }, { -2.5, -2 }, { -0.0, 0 }, { 3e-320, 0 }, { 0.1, 0 }, { -0.9, -1 }, { 4503599627370495.5, 4503599627370496 },
+    { 9007199254740992.0, 9007199254740992 }, { -9007199254740992.0, -9007199254740992 }
+};
+static const unsigned modes[] = { 0x1f80, 0x1f80 | 0x8040, 0x1f80 | 0x2000, 0x1f80 | 0x4000, 0x1f80 | 0x6000 };
+
+static void try_whole(size_t i, size_t m) {
+    uint32_t shown = 0;
+    int64_t figure = 77;
+    uint32_t answer = panel_after(rows[i].value, modes[m], &shown, &figure);
+    hold("the nearest whole number, in every mode", answer == 0 && shown == 1 && figure == rows[i].shown);
+}
+
+/* None, refusals, and what the two calls leave. */
+static void try_left(void) {
+    static uint8_t plan[RONDO_PLAN_SIZE(2)], image[ROOM];
+    const uint64_t lent = 77;
+    uint32_t flags, shown = 77;
+    int64_t figure = 77;
+    uint64_t full[5] = { 77, 77, 77, 77, 77 };
+    size_t size = make(plan, image, &flags);
+    hold("beyond -2^53 is refused", panel_after(-9007199254740994.0, 0x1f80, &shown, &figure) == RONDO_OFF_PANEL);
+    hold("no tier: refused", rondo_panel(image, size, flags, 0, 0, 2, &shown, &figure) == RONDO_INVALID_TIER);
+    hold("no tier: refused, for service", rondo_service(image, size, flags, 0, 0, 2, full) == RONDO_INVALID_TIER);
+    hold("a refusal leaves all", shown == 77 && figure == 77 && full[0] == lent && full[1] == lent && full[4] == lent);
+    hold("none on the panel", rondo_panel(image, size, flags, 0, 0, 0, &shown, &figure) == 0 && shown == 0 && figure == 77);
+    hold("none for service", rondo_service(image, size, flags, 0, 0, 0, full) == 0 && full[0] == 0);
+    hold("none leaves the rest", full[1] == lent && full[2] == lent && full[3] == lent && full[4] == lent);
+}
+
+static void try_figures(void) {
+    for (size_t i = 0; i < COUNT(rows); i++)
+        for (size_t m = 0; m < COUNT(modes); m++) try_whole(i, m);
+    try_left();
+    printf("machine: %zu figures in %zu floating-point modes, none, refused\n", COUNT(rows), COUNT(modes));
+}
+
 int main(void) {
     try_version();
     try_limits();
     try_early();
     try_alignment();
     try_modes();
+    try_figures();
     return faults != 0;
 }

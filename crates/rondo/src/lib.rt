@@ -1,5 +1,5 @@
 // The calls as programs in C and in Rust link them (c/include/rondo.h): numbers and byte slices alone. The flags are one number, bit i row i's flag, so every
-// number can be lent. Each answers 0, or document 01's number of its refusal. No caller tests anything first.
+// number can be lent. Each answers 0, or the number of its refusal. No caller tests anything first.
 ghost use mathlib.Core.Path.{_≡_};
 ghost use Prim.Native.Nat.{_/_};
 ghost use lib.ListN.{length};
@@ -8,11 +8,13 @@ ghost use Rattle.model.specs.Image.{planCheck, imageLength, createCheck, openCh
 ghost use Rattle.model.specs.Lent.{creation, opening};
 ghost use Rattle.model.specs.Record.{entries};
 ghost use Rattle.model.specs.Query.{query, queryAuto};
+ghost use Rattle.model.specs.Figure.{panel, service};
 ghost use Rattle.model.specs.Store.{call, recordCall, batchCall, consolidateCall};
 ghost use Rattle.flag_bits.specs.Bits.{bitOf};
 ghost use Rattle.flag_bits.specs.One.{lentAt};
 ghost use Rattle.fetch.specs.Fetch.{words};
 ghost use Rattle.rondo.specs.Edge.{doneAs, storedUnlessRefused, replyNo, countOn, endNo, foundWords, queriedNo, queriedWords, queryNo, queryWords, stepAt, placeWords, nextNo, pointWords, fetchAt};
+ghost use Rattle.rondo.specs.Figures.{panelNo, shownAs, wholeAs, serviceNo, figureWords, serviceWords};
 
 // The size of the image that a plan needs. A refused plan leaves `size`.
 #[no_mangle]
@@ -140,6 +142,17 @@ fn found_words(f: model::Found) -> [u64; 11]
     ]
 }
 
+// A service figure as numbers.
+fn figure_words(f: model::ServiceFigure) -> [u64; 5]
+    ensures { λ r. ⌜ r ≡ figureWords f ⌝ }
+{
+    let first = f.oldest;
+    let oldest = end_number(first);
+    let last = f.newest;
+    let newest = end_number(last);
+    [1, f.stamp, f.value, oldest, newest]
+}
+
 // Stores a query's answer, and answers its number.
 fn answer_query(reply: model::Queried, answer: &mut [u64; 11]) -> u32
     ensures { λ r. ⌜ (r ≡ queriedNo reply) × (now (answer .exit) ≡ queriedWords reply (now (answer .entry))) ⌝ }
@@ -262,6 +275,79 @@ pub extern "C" fn rondo_read(
     let behind = fetched.place;
     *place = [behind.slot, behind.left];
     fetched.count
+}
+
+// The panel's figure: 1 in `shown` and the whole number in `figure`; where there is no point 0 in `shown`, which leaves `figure`. A refusal leaves both.
+#[no_mangle]
+pub extern "C" fn rondo_panel(
+    image: &[u8],
+    flags: u32,
+    schema: u32,
+    column: u32,
+    tier: u32,
+    shown: &mut u32,
+    figure: &mut i64,
+) -> u32
+    ensures number { λ r. ⌜ r ≡ panelNo (panel (lentAt (now (image .entry)) flags) schema column tier) ⌝ }
+    ensures presence { λ r. ⌜ now (shown .exit) ≡ shownAs (panel (lentAt (now (image .entry)) flags) schema column tier) (now (shown .entry)) ⌝ }
+    ensures whole { λ r. ⌜ now (figure .exit) ≡ wholeAs (panel (lentAt (now (image .entry)) flags) schema column tier) (now (figure .entry)) ⌝ }
+{
+    let handle = model::SeriesHandle {
+        schema: schema,
+        column: column,
+    };
+    let opened = image_quick::check(image);
+    if opened != 0 {
+        return opened;
+    }
+    let reply = figure::panel_numbered(image, flags, handle, tier);
+    match reply {
+        model::Panel::Shows(whole) => {
+            *shown = 1;
+            *figure = whole;
+            0
+        }
+        model::Panel::Nothing => {
+            *shown = 0;
+            0
+        }
+        model::Panel::Refused(r) => model::refusal_number(r),
+    }
+}
+
+// The service figure: 1, stamp, value, oldest, newest; where there is no point 0 in the first word, which leaves the others. A refusal leaves all.
+#[no_mangle]
+pub extern "C" fn rondo_service(
+    image: &[u8],
+    flags: u32,
+    schema: u32,
+    column: u32,
+    tier: u32,
+    figure: &mut [u64; 5],
+) -> u32
+    ensures number { λ r. ⌜ r ≡ serviceNo (service (lentAt (now (image .entry)) flags) schema column tier) ⌝ }
+    ensures words { λ r. ⌜ now (figure .exit) ≡ serviceWords (service (lentAt (now (image .entry)) flags) schema column tier) (now (figure .entry)) ⌝ }
+{
+    let handle = model::SeriesHandle {
+        schema: schema,
+        column: column,
+    };
+    let opened = image_quick::check(image);
+    if opened != 0 {
+        return opened;
+    }
+    let reply = figure::service_numbered(image, flags, handle, tier);
+    match reply {
+        model::Service::Gives(f) => {
+            *figure = figure_words(f);
+            0
+        }
+        model::Service::Nothing => {
+            figure[0] = 0;
+            0
+        }
+        model::Service::Refused(r) => model::refusal_number(r),
+    }
 }
 
 // Brings every coarser tier up to date, and counts the values written. A refusal leaves `count`; what was done before it stays.
