@@ -6,3 +6,4 @@ pub mod Windows
 pub mod Level
 pub mod Twins
 pub mod Theorem
+pub mod Figures
