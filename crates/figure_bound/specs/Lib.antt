@@ -1,0 +1,5 @@
+pub mod Near
+pub mod Samples
+pub mod Last
+pub mod Theorem
+pub mod Instance
