@@ -4,7 +4,7 @@
 //! describe memory of the caller's that does not overlap with the call's other blocks and that nothing else changes meanwhile.
 //! Slices and references give that: a `&mut` is alone, and a slice of no bytes has a pointer that is not null.
 
-use crate::{Entry, Refusal};
+use crate::{Entry, Refusal, SeriesHandle, ServiceFigure};
 
 /// A query's answer: `struct rondo_answer`.
 #[repr(C)]
@@ -57,11 +57,18 @@ mod raw {
             slab: *const u8, slab_len: usize, column: u32, start: u64, end: u64, place: &mut Place, words: *mut u64,
             words_len: usize,
         ) -> usize;
+        pub(super) fn rondo_panel(
+            image: *const u8, image_len: usize, flags: u32, schema: u32, column: u32, tier: u32, shown: &mut u32,
+            figure: &mut i64,
+        ) -> u32;
+        pub(super) fn rondo_service(
+            image: *const u8, image_len: usize, flags: u32, schema: u32, column: u32, tier: u32, figure: &mut [u64; 5],
+        ) -> u32;
         pub(super) fn rondo_consolidate(image: *mut u8, image_len: usize, flags: &mut u32, count: &mut u64) -> u32;
     }
 }
 
-/// A number as the library answers it. No other number than 0 to 16 is ever answered: that is proved of it.
+/// A number as the library answers it. No other number than 0 to 17 is ever answered: that is proved of it.
 fn accepted(number: u32) -> Result<(), Refusal> {
     match (number, Refusal::from_number(number)) {
         (0, _) => Ok(()),
@@ -131,6 +138,25 @@ pub(crate) fn read(slab: &[u8], answer: &mut Answer, points: &mut [[u64; 2]]) ->
     let (at, len, place) = (words.as_mut_ptr(), words.len(), &mut answer.place);
     // SAFETY: slices
     unsafe { raw::rondo_read(slab.as_ptr(), slab.len(), column, start, end, place, at, len) }
+}
+
+/// The panel's figure; none where there is no point.
+pub(crate) fn panel(image: &[u8], flags: u32, handle: SeriesHandle, tier: u32) -> Result<Option<i64>, Refusal> {
+    let SeriesHandle { schema, column } = handle;
+    let (at, len, mut shown, mut figure) = (image.as_ptr(), image.len(), 0, 0);
+    // SAFETY: slices
+    accepted(unsafe { raw::rondo_panel(at, len, flags, schema, column, tier, &mut shown, &mut figure) })?;
+    Ok((shown != 0).then_some(figure))
+}
+
+/// The service figure; none where there is no point.
+pub(crate) fn service(image: &[u8], flags: u32, handle: SeriesHandle, tier: u32) -> Result<Option<ServiceFigure>, Refusal> {
+    let SeriesHandle { schema, column } = handle;
+    let (at, len, mut figure) = (image.as_ptr(), image.len(), [0; 5]);
+    // SAFETY: slices
+    accepted(unsafe { raw::rondo_service(at, len, flags, schema, column, tier, &mut figure) })?;
+    let [present, stamp, bits, oldest, newest] = figure;
+    Ok((present != 0).then_some(ServiceFigure { stamp, value: f64::from_bits(bits), oldest, newest }))
 }
 
 pub(crate) fn consolidate(image: &mut [u8], flags: &mut u32) -> Result<u64, Refusal> {

@@ -2,8 +2,9 @@
 //!
 //! A [`Store`] is one block of bytes, the image, and one number of flags. A [`Plan`] says what it holds: schemas of some series
 //! each, and for each schema tiers, such as seconds for two hours and minutes for a day. Values are recorded in the finest tier;
-//! [`Store::consolidate`] makes the coarser ones; queries read any of them. A [`View`] reads an image that nothing may change,
-//! such as one in flash. Times are nanoseconds from where you like.
+//! [`Store::consolidate`] makes the coarser ones; queries read any of them; [`Store::panel`] has the last point as a whole number,
+//! [`Store::service`] in full. A [`View`] reads an image that nothing may change, such as one in flash. Times are nanoseconds from
+//! where you like.
 //!
 //! This crate is a thin safe face. The work is done by librondo.a, a library in which every call is proved to do what its
 //! definition says, on every input: any bytes may be lent, and each call answers, or refuses with one [`Refusal`]. It allocates
@@ -48,12 +49,14 @@ compile_error!("librondo.a is for x86-64 Linux");
 
 #[allow(unsafe_code)]
 mod calls;
+mod figure;
 mod plan;
 mod query;
 mod refusal;
 mod store;
 mod view;
 
+pub use figure::ServiceFigure;
 pub use plan::{ConsolidationFn, MAX_SCHEMAS, MAX_TIERS, Plan, TierConfig, nanos};
 pub use query::{Points, QueryResult};
 pub use refusal::Refusal;

@@ -15,7 +15,10 @@ use core::fmt;
 /// assert_eq!(refusal.name(), "NoTiers");
 /// assert_eq!(refusal.to_string(), "a schema has no tier");
 /// ```
+///
+/// A later change of the rules may add one: a `match` needs an arm for the rest.
 #[derive(Debug, Clone, Copy, PartialEq, Eq, PartialOrd, Ord, Hash)]
+#[non_exhaustive]
 #[repr(u32)]
 pub enum Refusal {
     /// The table of contents is not as it must be, or the image is shorter than it says; or a plan has no schema,
@@ -51,11 +54,13 @@ pub enum Refusal {
     InvalidTimeRange = 15,
     /// A coarser tier has no function.
     NoConsolidationFunction = 16,
+    /// The last point's value is beyond ±2^53, or infinite: [`Store::panel`](crate::Store::panel) has no number for it.
+    OffPanel = 17,
 }
 
 impl Refusal {
     /// All refusals, by number.
-    pub const ALL: [Refusal; 16] = [
+    pub const ALL: [Refusal; 17] = [
         Refusal::BadImage,
         Refusal::NoTiers,
         Refusal::InvalidMaxSeries,
@@ -72,9 +77,10 @@ impl Refusal {
         Refusal::InvalidTier,
         Refusal::InvalidTimeRange,
         Refusal::NoConsolidationFunction,
+        Refusal::OffPanel,
     ];
 
-    /// Its number, 1 to 16, as in the header for C.
+    /// Its number, 1 to 17, as in the header for C.
     pub const fn number(self) -> u32 {
         self as u32
     }
@@ -86,10 +92,10 @@ impl Refusal {
     ///
     /// assert_eq!(Refusal::from_number(15), Some(Refusal::InvalidTimeRange));
     /// assert_eq!(Refusal::from_number(0), None);
-    /// assert_eq!(Refusal::from_number(17), None);
+    /// assert_eq!(Refusal::from_number(18), None);
     /// ```
     pub const fn from_number(number: u32) -> Option<Refusal> {
-        if number >= 1 && number <= 16 { Some(Refusal::ALL[number as usize - 1]) } else { None }
+        if number >= 1 && number as usize <= Refusal::ALL.len() { Some(Refusal::ALL[number as usize - 1]) } else { None }
     }
 
     /// Its name, as in this enum.
@@ -111,6 +117,7 @@ impl Refusal {
             Refusal::InvalidTier => "InvalidTier",
             Refusal::InvalidTimeRange => "InvalidTimeRange",
             Refusal::NoConsolidationFunction => "NoConsolidationFunction",
+            Refusal::OffPanel => "OffPanel",
         }
     }
 
@@ -137,6 +144,7 @@ impl Refusal {
             Refusal::InvalidTier => "the schema has no such tier",
             Refusal::InvalidTimeRange => "the range's start is not below its end",
             Refusal::NoConsolidationFunction => "a coarser tier has no function",
+            Refusal::OffPanel => "the last point's value is beyond 2^53, either way, or infinite",
         }
     }
 }

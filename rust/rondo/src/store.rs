@@ -2,7 +2,7 @@
 
 use core::fmt;
 
-use crate::{Plan, QueryResult, Refusal, View, calls};
+use crate::{Plan, QueryResult, Refusal, ServiceFigure, View, calls};
 
 /// A series: the schema's number and the column's, both from 0.
 #[derive(Debug, Clone, Copy, PartialEq, Eq, PartialOrd, Ord, Hash)]
@@ -236,6 +236,56 @@ impl<'a> Store<'a> {
     /// Those of [`Store::open`], then [`Refusal::InvalidHandle`], [`Refusal::InvalidTimeRange`], in this order.
     pub fn query_auto(&self, handle: SeriesHandle, start_ns: u64, end_ns: u64) -> Result<QueryResult<'_>, Refusal> {
         self.view().query_auto(handle, start_ns, end_ns)
+    }
+
+    /// The panel's figure of a series in a tier (0 is the finest): the last point that a query over all time hands out, as a
+    /// whole number of nanoseconds, the nearest one, of two equally near ones the even one. None where there is no point.
+    ///
+    /// ```
+    /// # use rondo::{Plan, Refusal, SeriesHandle, Store, TierConfig};
+    /// # let plan = Plan::new().schema(1, 7, &[TierConfig::from_nanos(10, 40, None)]);
+    /// # let mut image = [0; 228];
+    /// # let mut store = Store::create(&plan, &mut image)?;
+    /// # let handle = SeriesHandle::new(0, 0);
+    /// assert_eq!(store.panel(handle, 0)?, None);
+    /// store.record(handle, -2.5, 20)?;
+    /// assert_eq!(store.panel(handle, 0)?, Some(-2));
+    /// store.record(handle, 1e300, 30)?;
+    /// assert_eq!(store.panel(handle, 0), Err(Refusal::OffPanel));
+    /// # Ok::<(), Refusal>(())
+    /// ```
+    ///
+    /// # Errors
+    ///
+    /// Those of [`Store::open`], then [`Refusal::InvalidHandle`], [`Refusal::InvalidTier`], and, where there is a point,
+    /// [`Refusal::OffPanel`], in this order.
+    pub fn panel(&self, handle: SeriesHandle, tier: u32) -> Result<Option<i64>, Refusal> {
+        self.view().panel(handle, tier)
+    }
+
+    /// The service figure of a series in a tier (0 is the finest): the same point in full, with both ends of the reading. None
+    /// where there is no point.
+    ///
+    /// ```
+    /// # use rondo::{Plan, Refusal, SeriesHandle, Store, TierConfig};
+    /// # let plan = Plan::new().schema(1, 7, &[TierConfig::from_nanos(10, 40, None)]);
+    /// # let mut image = [0; 228];
+    /// # let mut store = Store::create(&plan, &mut image)?;
+    /// # let handle = SeriesHandle::new(0, 0);
+    /// store.record(handle, 12.25, 20)?;
+    /// store.record(handle, 1e300, 30)?;
+    /// store.record(handle, f64::NAN, 35)?; // in the slot of 30
+    /// let figure = store.service(handle, 0)?.unwrap();
+    /// assert_eq!((figure.stamp, figure.value), (20, 12.25));
+    /// assert_eq!((figure.oldest, figure.newest), (20, 35));
+    /// # Ok::<(), Refusal>(())
+    /// ```
+    ///
+    /// # Errors
+    ///
+    /// Those of [`Store::open`], then [`Refusal::InvalidHandle`], [`Refusal::InvalidTier`], in this order.
+    pub fn service(&self, handle: SeriesHandle, tier: u32) -> Result<Option<ServiceFigure>, Refusal> {
+        self.view().service(handle, tier)
     }
 
     /// Brings every coarser tier up to date, and answers how many values were written. It may follow any sample. The window

@@ -5,7 +5,7 @@ use core::iter::FusedIterator;
 
 use crate::calls::{self, Asked};
 use crate::plan::{HEADER, ROW};
-use crate::{ConsolidationFn, QueryResult, Refusal, SeriesHandle, TierConfig};
+use crate::{ConsolidationFn, QueryResult, Refusal, SeriesHandle, ServiceFigure, TierConfig};
 
 /// A store in bytes that are only read, such as a mapped file or flash. [`Store::view`](crate::Store::view) has one of a store.
 ///
@@ -79,6 +79,24 @@ impl<'a> View<'a> {
     pub fn query_auto(&self, handle: SeriesHandle, start_ns: u64, end_ns: u64) -> Result<QueryResult<'a>, Refusal> {
         let answer = calls::query_auto(self.image, self.flags, asked(handle, start_ns, end_ns))?;
         Ok(QueryResult::new(self.image, answer))
+    }
+
+    /// The panel's figure of a series in a tier: [`Store::panel`](crate::Store::panel).
+    ///
+    /// # Errors
+    ///
+    /// Those of [`Store::panel`](crate::Store::panel).
+    pub fn panel(&self, handle: SeriesHandle, tier: u32) -> Result<Option<i64>, Refusal> {
+        calls::panel(self.image, self.flags, handle, tier)
+    }
+
+    /// The service figure of a series in a tier: [`Store::service`](crate::Store::service).
+    ///
+    /// # Errors
+    ///
+    /// Those of [`Store::service`](crate::Store::service).
+    pub fn service(&self, handle: SeriesHandle, tier: u32) -> Result<Option<ServiceFigure>, Refusal> {
+        calls::service(self.image, self.flags, handle, tier)
     }
 
     /// The tiers of all schemas, in the image's order: by schema, the finest first.

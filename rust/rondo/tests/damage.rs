@@ -29,16 +29,22 @@ fn damage(image: &mut [u8], numbers: &mut Numbers) {
 }
 
 /// Counts a call's answer by its number, 0 where it was accepted.
-fn count<T>(seen: &mut [u32; 17], answer: Result<T, Refusal>) -> Option<T> {
+fn count<T>(seen: &mut [u32; 18], answer: Result<T, Refusal>) -> Option<T> {
     seen[answer.as_ref().err().map_or(0, |refusal| refusal.number()) as usize] += 1;
     answer.ok()
 }
 
-fn read(store: &Store, numbers: &mut Numbers, seen: &mut [u32; 17]) -> usize {
+fn read(store: &Store, numbers: &mut Numbers, seen: &mut [u32; 18]) -> usize {
     let mut points = 0;
     for (schema, column) in [(0, 0), (0, 1), (1, 0)] {
         let handle = SeriesHandle::new(schema, column);
-        let answer = count(seen, store.query(handle, numbers.below(3) as u32, EVER.0, EVER.1));
+        let tier = numbers.below(3) as u32;
+        let answer = count(seen, store.query(handle, tier, EVER.0, EVER.1));
+        let figure = count(seen, store.service(handle, tier));
+        count(seen, store.panel(handle, tier));
+        let (last, ends) = answer.map_or((None, None), |a| (a.points().last(), a.oldest().zip(a.newest())));
+        assert_eq!(figure.flatten().map(|f| (f.stamp, f.value)), last);
+        assert!(figure.flatten().is_none_or(|f| Some((f.oldest, f.newest)) == ends));
         points += answer.map_or(0, |answer| answer.points().count());
         let answer = count(seen, store.query_auto(handle, numbers.below(500), 500 + numbers.below(500)));
         points += answer.map_or(0, |answer| answer.points().count());
@@ -48,7 +54,7 @@ fn read(store: &Store, numbers: &mut Numbers, seen: &mut [u32; 17]) -> usize {
 
 #[test]
 fn every_call_answers() {
-    let (good, mut numbers, mut seen, mut points) = (good(), Numbers(2463534242), [0; 17], 0);
+    let (good, mut numbers, mut seen, mut points) = (good(), Numbers(2463534242), [0; 18], 0);
     for _ in 0..20_000 {
         let mut image = good.clone();
         damage(&mut image, &mut numbers);

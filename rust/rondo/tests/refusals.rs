@@ -37,7 +37,7 @@ fn upper(name: &str) -> String {
 fn names_and_numbers_are_the_headers() {
     let (answers, functions): (Vec<_>, Vec<_>) = {
         let all = numbers();
-        (all[..17].to_vec(), all[17..].to_vec())
+        (all[..18].to_vec(), all[18..].to_vec())
     };
     assert_eq!(answers[0], ("ACCEPTED".to_string(), 0));
     for (refusal, (name, number)) in Refusal::ALL.into_iter().zip(&answers[1..]) {
@@ -57,7 +57,7 @@ fn each_has_a_sentence_of_its_own_and_is_an_error() {
     let mut words: Vec<String> = Refusal::ALL.iter().map(Refusal::to_string).collect();
     words.sort();
     words.dedup();
-    assert_eq!(words.len(), 16);
+    assert_eq!(words.len(), 17);
     let boxed: Box<dyn std::error::Error> = Refusal::NoTiers.into();
     assert_eq!(boxed.to_string(), "a schema has no tier");
     assert_eq!(format!("{:>22}|", Refusal::NoTiers), "  a schema has no tier|");
@@ -137,6 +137,8 @@ fn recordings_and_queries() {
         assert_eq!(store.record_batch(&entries, 0), Err(Refusal::InvalidHandle));
         assert_eq!(store.query(wrong, 2, 5, 5).unwrap_err(), Refusal::InvalidHandle);
         assert_eq!(store.query_auto(wrong, 5, 5).unwrap_err(), Refusal::InvalidHandle);
+        assert_eq!(store.panel(wrong, 2), Err(Refusal::InvalidHandle));
+        assert_eq!(store.service(wrong, 2), Err(Refusal::InvalidHandle));
     }
     for value in [f64::INFINITY, f64::NEG_INFINITY] {
         assert_eq!(store.record(FIRST, value, 20), Err(Refusal::InvalidValue));
@@ -147,6 +149,8 @@ fn recordings_and_queries() {
     assert_eq!(store.query(FIRST, 2, 5, 5).unwrap_err(), Refusal::InvalidTier);
     assert_eq!(store.query(FIRST, 1, 5, 5).unwrap_err(), Refusal::InvalidTimeRange);
     assert_eq!(store.query_auto(FIRST, 6, 5).unwrap_err(), Refusal::InvalidTimeRange);
+    assert_eq!(store.panel(FIRST, 2), Err(Refusal::InvalidTier));
+    assert_eq!(store.service(FIRST, 2), Err(Refusal::InvalidTier));
     assert_eq!((store.image().to_vec(), store.flags()), before);
 }
 
@@ -182,6 +186,8 @@ fn any_bytes_may_be_lent() {
     assert_eq!(store.record_batch(&[], 10), Err(Refusal::BadImage));
     assert_eq!(store.query(FIRST, 0, EVER.0, EVER.1).unwrap_err(), Refusal::BadImage);
     assert_eq!(store.query_auto(FIRST, EVER.0, EVER.1).unwrap_err(), Refusal::BadImage);
+    assert_eq!(store.panel(FIRST, 0), Err(Refusal::BadImage));
+    assert_eq!(store.service(FIRST, 0), Err(Refusal::BadImage));
     assert_eq!(store.consolidate(), Err(Refusal::BadImage));
     assert_eq!((store.image(), store.flags()), ([7; 300].as_slice(), u32::MAX));
 }

@@ -2,13 +2,13 @@
 
 use std::fmt::Write;
 
-use rondo::{ConsolidationFn, Entry, Plan, QueryResult, SeriesHandle, Store};
+use rondo::{ConsolidationFn, Entry, Plan, QueryResult, Refusal, SeriesHandle, Store};
 
 mod shared;
 use shared::{EVER, bytes_for, raw, tier};
 
 const SECOND: u64 = 1_000_000_000;
-/// FNV-1a over the image that c/tour.rs has at its end, before it damages it.
+/// FNV-1a over the image that c/tour.rs has once its three hours are recorded.
 const TOURS_IMAGE: u64 = 0x9e2f_c78b_2b1e_85d7;
 const AVERAGE: Option<ConsolidationFn> = Some(ConsolidationFn::Average);
 const OFFSET: SeriesHandle = SeriesHandle::new(0, 0);
@@ -124,6 +124,28 @@ fn ask(store: &mut Store, out: &mut String) {
     .unwrap();
 }
 
+/// The last minute's mean as the panel shows it and in full; then a value that no panel shows.
+fn figures(store: &mut Store, out: &mut String) {
+    let (shown, full) = (store.panel(OTHER, 1).unwrap(), store.service(OTHER, 1).unwrap());
+    let figure = full.unwrap();
+    writeln!(
+        out,
+        "panel: {}, {}; service: {}, {:.6} of second {}, ring from {} to {}",
+        u32::from(shown.is_some()),
+        shown.unwrap(),
+        u32::from(full.is_some()),
+        figure.value,
+        figure.stamp / SECOND,
+        figure.oldest / SECOND,
+        figure.newest / SECOND,
+    )
+    .unwrap();
+    store.record(OFFSET, 9007199254740994.0, 14399 * SECOND).unwrap();
+    let (panel, service) = (store.panel(OFFSET, 0), store.service(OFFSET, 0));
+    let number = |refusal: Option<Refusal>| refusal.map_or(0, Refusal::number);
+    writeln!(out, "beyond 2^53: panel {}, service {}", number(panel.err()), number(service.err())).unwrap();
+}
+
 #[test]
 fn the_same_lines() {
     let plan = plan();
@@ -131,6 +153,7 @@ fn the_same_lines() {
     let mut out = format!("image of {} bytes\n", image.len());
     let flags = record(Store::create(&plan, &mut image).unwrap(), &mut out);
     ask(&mut Store::resume(&mut image, flags), &mut out);
+    figures(&mut Store::resume(&mut image, flags), &mut out);
     let again = Store::open(&mut image).unwrap();
     writeln!(out, "flags {flags}, opened again {}", again.flags()).unwrap();
     show(&mut out, again.query(OTHER, 0, EVER.0, EVER.1).unwrap());

@@ -31,6 +31,12 @@ unsafe extern "C" {
     fn rondo_next(
         slab: *const u8, slab_len: usize, column: u32, start: u64, end: u64, place: &mut [u64; 2], point: &mut [u64; 2],
     ) -> u32;
+    fn rondo_panel(
+        image: *const u8, image_len: usize, flags: u32, schema: u32, column: u32, tier: u32, shown: &mut u32, figure: &mut i64,
+    ) -> u32;
+    fn rondo_service(
+        image: *const u8, image_len: usize, flags: u32, schema: u32, column: u32, tier: u32, figure: &mut [u64; 5],
+    ) -> u32;
     fn rondo_consolidate(image: *mut u8, image_len: usize, flags: &mut u32, count: &mut u64) -> u32;
 }
 
@@ -84,6 +90,20 @@ pub fn query_auto(image: &[u8], flags: u32, schema: u32, column: u32, range: (u6
     let (at, len, mut answer) = (image.as_ptr(), image.len(), Answer::default());
     assert_eq!(unsafe { rondo_query_auto(at, len, flags, schema, column, range.0, range.1, &mut answer) }, 0);
     answer
+}
+
+/// The panel's call for schema 0: its number, and what it left in what was lent.
+pub fn panel(image: &[u8], flags: u32, column: u32, tier: u32, lent: (u32, i64)) -> (u32, (u32, i64)) {
+    let (at, len, (mut shown, mut figure)) = (image.as_ptr(), image.len(), lent);
+    let number = unsafe { rondo_panel(at, len, flags, 0, column, tier, &mut shown, &mut figure) };
+    (number, (shown, figure))
+}
+
+/// The service tools' call for schema 0: its number, and what it left in what was lent.
+pub fn service(image: &[u8], flags: u32, column: u32, tier: u32, lent: [u64; 5]) -> (u32, [u64; 5]) {
+    let (at, len, mut figure) = (image.as_ptr(), image.len(), lent);
+    let number = unsafe { rondo_service(at, len, flags, 0, column, tier, &mut figure) };
+    (number, figure)
 }
 
 /// The next point, one a call.
