@@ -68,6 +68,28 @@ pub enum Command {
         #[arg(long)]
         json: bool,
     },
+    /// Prints the last point of a series as a panel shows it: rounded to whole nanoseconds, ties to even; refused beyond 2^53, either way
+    Panel {
+        #[command(flatten)]
+        series: AtTier,
+        /// As CSV: figure_ns
+        #[arg(long, conflicts_with = "json")]
+        csv: bool,
+        /// As JSON; null where there is no point
+        #[arg(long)]
+        json: bool,
+    },
+    /// Prints the last point of a series in full, with the oldest and the newest stamp of its ring
+    Service {
+        #[command(flatten)]
+        series: AtTier,
+        /// As CSV: stamp_ns,time,value,oldest_ns,newest_ns
+        #[arg(long, conflicts_with = "json")]
+        csv: bool,
+        /// As JSON; null where there is no point
+        #[arg(long)]
+        json: bool,
+    },
     /// Draws the points of a series
     Plot {
         #[command(flatten)]
@@ -162,6 +184,23 @@ pub struct Asked {
     pub end: Option<String>,
 }
 
+/// A series and a tier.
+#[derive(Args)]
+pub struct AtTier {
+    /// The image file
+    #[arg(value_name = "FILE")]
+    pub file: PathBuf,
+    /// The schema's number
+    #[arg(value_name = "SCHEMA", value_parser = input::number)]
+    pub schema: u32,
+    /// The column's number
+    #[arg(value_name = "COLUMN", value_parser = input::number)]
+    pub column: u32,
+    /// A tier's number, 0 the finest
+    #[arg(value_name = "TIER", value_parser = tier_number)]
+    pub tier: u32,
+}
+
 #[derive(Clone, Copy)]
 pub enum Tier {
     Auto,
@@ -173,4 +212,11 @@ fn tier(text: &str) -> Result<Tier, String> {
         return Ok(Tier::Auto);
     }
     input::number(text).map(Tier::Number).map_err(|why| format!("{why}, and not auto"))
+}
+
+fn tier_number(text: &str) -> Result<u32, String> {
+    if text == "auto" {
+        return Err("auto goes by a range of time; give a tier's number, 0 the finest".to_string());
+    }
+    input::number(text)
 }

@@ -5,6 +5,7 @@
 mod cli;
 mod dump;
 mod failure;
+mod figures;
 mod file;
 mod font;
 mod import;
@@ -84,6 +85,8 @@ fn carry_out(cli: &Cli) -> Done<String> {
         Command::Import { file } => import::import(file, cli.wait),
         Command::Consolidate { file } => writing::consolidate(file, cli.wait),
         Command::Query { asked, csv, json } => reading::query(asked, Form::of(*csv, *json)),
+        Command::Panel { series, csv, json } => figures::panel(series, Form::of(*csv, *json)),
+        Command::Service { series, csv, json } => figures::service(series, Form::of(*csv, *json)),
         Command::Plot { asked, out } => plot::plot(asked, out.as_deref(), cli.wait),
         Command::Show { file, csv, json } => show::show(file, Form::of(*csv, *json)),
         Command::Check { file } => reading::check(file),

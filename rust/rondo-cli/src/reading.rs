@@ -74,13 +74,20 @@ fn bound(name: &str, text: Option<&str>, now: u64, all: u64) -> Done<u64> {
 
 fn why(image: &[u8], asked: &Asked, refusal: Refusal, start: u64, end: u64) -> String {
     match refusal {
-        Refusal::InvalidHandle => no_series(image, SeriesHandle::new(asked.schema, asked.column)),
-        Refusal::InvalidTier => {
-            let tiers = table::tiers(&table::rows(image), asked.schema).len();
-            format!("schema {} has tiers 0 to {}", asked.schema, tiers.saturating_sub(1))
-        }
         Refusal::InvalidTimeRange => {
             format!("the range starts at {} and must end later, not at {}", date(start), date(end))
+        }
+        other => not_there(image, SeriesHandle::new(asked.schema, asked.column), other),
+    }
+}
+
+/// Which series or tiers there are instead of one that is not there.
+pub fn not_there(image: &[u8], handle: SeriesHandle, refusal: Refusal) -> String {
+    match refusal {
+        Refusal::InvalidHandle => no_series(image, handle),
+        Refusal::InvalidTier => {
+            let tiers = table::tiers(&table::rows(image), handle.schema).len();
+            format!("schema {} has tiers 0 to {}", handle.schema, tiers.saturating_sub(1))
         }
         other => other.to_string(),
     }
@@ -132,11 +139,7 @@ fn csv_of(answer: &Answer) -> Done<String> {
 }
 
 fn json_of(answer: &Answer) -> String {
-    let point = |(stamp, v): &(u64, f64)| {
-        // JSON has no infinite numbers, and an image from elsewhere may have some
-        let v = if v.is_finite() { json!(v) } else { Value::String(value::text(*v)) };
-        json!({ "stamp_ns": stamp, "time": date(*stamp), "value": v })
-    };
+    let point = |(stamp, v): &(u64, f64)| json!({ "stamp_ns": stamp, "time": date(*stamp), "value": json_value(*v) });
     let all = json!({
         "tier": answer.tier,
         "oldest_ns": answer.oldest,
@@ -145,6 +148,11 @@ fn json_of(answer: &Answer) -> String {
         "points": answer.points.iter().map(point).collect::<Vec<Value>>(),
     });
     format!("{all}\n")
+}
+
+/// A value in JSON, which has no infinite numbers, and an image from elsewhere may have some.
+pub fn json_value(v: f64) -> Value {
+    if v.is_finite() { json!(v) } else { Value::String(value::text(v)) }
 }
 
 pub fn check(name: &Path) -> Done<String> {

@@ -189,8 +189,21 @@ fn plot_into_a_picture() {
 fn man_page_and_completions() {
     let folder = Folder::new();
     let page = folder.good("man");
-    for command in ["create", "record", "import", "consolidate", "query", "plot", "show", "check", "dump", "restore", "version"]
-    {
+    for command in [
+        "create",
+        "record",
+        "import",
+        "consolidate",
+        "query",
+        "panel",
+        "service",
+        "plot",
+        "show",
+        "check",
+        "dump",
+        "restore",
+        "version",
+    ] {
         assert!(page.contains(&format!(".SS {command}\n")), "{command}");
         for shell in ["bash", "zsh", "fish"] {
             assert!(folder.good(&format!("completions {shell}")).contains(command));
@@ -214,7 +227,9 @@ fn wrong_usage() {
     folder.bad(2, "no command", "");
     folder.bad_words(2, "", &[""], b"");
     folder.bad(2, "frobnicate", "frobnicate a.img");
-    for command in ["create", "record", "import", "consolidate", "query", "plot", "show", "check", "dump", "restore"] {
+    for command in
+        ["create", "record", "import", "consolidate", "query", "panel", "service", "plot", "show", "check", "dump", "restore"]
+    {
         folder.bad(2, "<FILE>", command);
     }
     for command in ["consolidate", "show", "check", "import", "dump", "restore"] {
@@ -230,6 +245,14 @@ fn wrong_usage() {
         folder.bad(2, "<COLUMN>", &format!("{command} a.img 0"));
         folder.bad(2, "<TIER>", &format!("{command} a.img 0 0"));
         folder.bad(2, "<END>", &format!("{command} a.img 0 0 0 5s"));
+    }
+    for command in ["panel", "service"] {
+        folder.bad(2, "'5s'", &format!("{command} a.img 0 0 0 5s"));
+        folder.bad(2, "<SCHEMA>", &format!("{command} a.img"));
+        folder.bad(2, "<COLUMN>", &format!("{command} a.img 0"));
+        folder.bad(2, "<TIER>", &format!("{command} a.img 0 0"));
+        folder.bad(2, "auto goes by a range of time; give a tier's number, 0 the finest", &format!("{command} a.img 0 0 auto"));
+        folder.bad(2, "cannot be used with", &format!("{command} a.img 0 0 0 --csv --json"));
     }
 }
 

@@ -88,6 +88,8 @@ fn every_command_refuses_a_damaged_image() {
             "record damaged.img 0 0 20s 1",
             "consolidate damaged.img",
             "query damaged.img 0 0 0",
+            "panel damaged.img 0 0 0",
+            "service damaged.img 0 0 0",
             "plot damaged.img 0 0 0",
             "show damaged.img",
             "dump damaged.img",
@@ -137,7 +139,14 @@ fn whatever_stands_in_the_table_no_command_falls_over() {
         fs::write(folder.file("damaged.img"), bytes).unwrap();
         let check = folder.run("check damaged.img").status;
         taken += i32::from(check == 0);
-        for words in ["show damaged.img", "query damaged.img 0 0 auto", "plot damaged.img 0 1 0", "dump damaged.img"] {
+        for words in [
+            "show damaged.img",
+            "query damaged.img 0 0 auto",
+            "panel damaged.img 0 1 0",
+            "service damaged.img 0 1 0",
+            "plot damaged.img 0 1 0",
+            "dump damaged.img",
+        ] {
             let said = folder.run(words);
             assert_eq!(said.status, check, "{words}: {said:?}");
             assert!(said.err.lines().count() == check as usize, "{words}: {said:?}");

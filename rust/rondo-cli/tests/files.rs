@@ -186,7 +186,18 @@ fn files_that_are_no_images() {
     for (name, length) in [("short.img", 31), ("rows.img", 100), ("cut.img", good.len() - 1)] {
         fs::write(folder.file(name), &good[..length]).unwrap();
     }
-    for command in ["consolidate", "show", "check", "dump", "import", "record 0 0 20s 1", "query 0 0 0", "plot 0 0 0"] {
+    for command in [
+        "consolidate",
+        "show",
+        "check",
+        "dump",
+        "import",
+        "record 0 0 20s 1",
+        "query 0 0 0",
+        "panel 0 0 0",
+        "service 0 0 0",
+        "plot 0 0 0",
+    ] {
         let (first, rest) = command.split_once(' ').unwrap_or((command, ""));
         folder.bad(3, "nothing.img: No such file or directory", &format!("{first} nothing.img {rest}"));
         folder.bad(3, "folder: Is a directory", &format!("{first} folder {rest}"));
@@ -328,7 +339,9 @@ fn file_and_folder_are_synced() {
     for words in ["record a.img 0 0 60s 1", "consolidate a.img"] {
         assert_eq!(traced(&folder, words).unwrap(), ["fsync file", "rename", "fsync folder"], "{words}");
     }
-    assert_eq!(traced(&folder, "query a.img 0 0 0").unwrap(), [""; 0]);
+    for command in ["query", "panel", "service"] {
+        assert_eq!(traced(&folder, &format!("{command} a.img 0 0 0")).unwrap(), [""; 0]);
+    }
 }
 
 #[test]

@@ -21,7 +21,7 @@ fn colours_and_progress() {
     let lines: String = (3600..23_600).map(|t| format!("0 0 {t}s 1\n")).collect();
     std::fs::write(folder.file("lines"), &lines).unwrap();
     assert!(!folder.good_with("import a.img", &lines).contains('\x1b'));
-    for words in ["query a.img 0 0 0 23000s 23010s", "show a.img", "plot a.img 0 0 0", "help"] {
+    for words in ["query a.img 0 0 0 23000s 23010s", "show a.img", "service a.img 0 0 0", "plot a.img 0 0 0", "help"] {
         assert!(!folder.good(words).contains('\x1b'), "{words}");
     }
     let Some(shown) = on_a_terminal(&folder, "show a.img") else {

@@ -7,12 +7,14 @@ use std::fs;
 use shared::Folder;
 
 /// Every command with a file and the words that it needs.
-const ALL: [(&str, &str); 10] = [
+const ALL: [(&str, &str); 12] = [
     ("create", "series 1 tier 1s 9s"),
     ("record", "0 0 20s 1"),
     ("import", ""),
     ("consolidate", ""),
     ("query", "0 0 0"),
+    ("panel", "0 0 0"),
+    ("service", "0 0 0"),
     ("plot", "0 0 0"),
     ("show", ""),
     ("check", ""),
@@ -66,11 +68,16 @@ fn numbers() {
             folder.bad(1, "refusal 11, InvalidHandle", &format!("{command} a.img 0 {word} auto"));
             folder.bad(1, "refusal 14, InvalidTier", &format!("{command} a.img 0 0 {word}"));
         }
+        for command in ["panel", "service"] {
+            folder.bad(1, "refusal 11, InvalidHandle", &format!("{command} a.img {word} 0 9"));
+            folder.bad(1, "refusal 11, InvalidHandle", &format!("{command} a.img 0 {word} 9"));
+            folder.bad(1, "refusal 14, InvalidTier", &format!("{command} a.img 0 0 {word}"));
+        }
     }
     for word in ["x", "-1", "1.0", "0x1", "+1", "1e0", "١", "Auto", "--1"] {
         folder.bad(2, &format!("SCHEMA cannot be read from '{word}'"), &format!("record a.img {word} 0 20s 1"));
         folder.bad(2, &format!("COLUMN cannot be read from '{word}'"), &format!("record a.img 0 {word} 20s 1"));
-        for command in ["query", "plot"] {
+        for command in ["query", "plot", "panel", "service"] {
             for words in [format!("{word} 0 0"), format!("0 {word} 0"), format!("0 0 {word}")] {
                 folder.bad(2, word, &format!("{command} a.img {words}"));
             }
@@ -272,7 +279,7 @@ fn files() {
     let folder = image();
     fs::write(folder.file("zeros.img"), vec![0; (4 << 20) + 1]).unwrap();
     fs::write(folder.file("text.img"), "0 0 20s 1\n".repeat(100)).unwrap();
-    for (command, rest) in &ALL[1..9] {
+    for (command, rest) in &ALL[1..11] {
         folder.bad(1, "zeros.img: refusal 1, BadImage: header, field magic", &format!("{command} zeros.img {rest}"));
         folder.bad(1, "text.img: refusal 1, BadImage: header, field magic", &format!("{command} text.img {rest}"));
         folder.bad(3, "a.img/inner: Not a directory", &format!("{command} a.img/inner {rest}"));
