@@ -1,6 +1,6 @@
 //! What the sides share: plans, calls, answers, and the trait that a side fulfils.
 
-use crate::plain::{ENTRY, Flags, HEADER, ROW, put32, put64};
+use crate::plain::{ENTRY, Figure, Flags, HEADER, ROW, put32, put64};
 
 #[derive(Clone, Copy, Debug, PartialEq, Eq)]
 pub struct Tier {
@@ -78,6 +78,17 @@ pub enum Call {
         start: u64,
         end: u64,
     },
+    /// The panel's figure and the service figure (request 2026-04).
+    Panel {
+        schema: u32,
+        column: u32,
+        tier: u32,
+    },
+    Service {
+        schema: u32,
+        column: u32,
+        tier: u32,
+    },
     /// A reader made by hand steps over a part of the image, as far as it is there: only for sides on lent bytes.
     Next {
         part: (usize, usize),
@@ -105,6 +116,14 @@ pub enum Call {
     Cut {
         length: usize,
     },
+}
+
+impl Call {
+    /// Whether the call only reads, and so changes nothing.
+    pub fn reads(&self) -> bool {
+        use Call::*;
+        matches!(self, Query { .. } | Auto { .. } | Panel { .. } | Service { .. } | Next { .. })
+    }
 }
 
 /// Opening, handed image and flags as left.
@@ -161,7 +180,7 @@ pub fn entry_bytes(entries: &[(u32, u32, u64)], tail: u8) -> Vec<u8> {
 
 #[derive(Clone, Debug, PartialEq, Eq)]
 pub enum Answer {
-    /// Document 01's number.
+    /// Document 01's number, or 17.
     Refused(u32),
     Done,
     Count(u64),
@@ -179,6 +198,10 @@ pub enum Answer {
         point: Option<(u64, u64)>,
         place: (u64, u64),
     },
+    /// The panel's whole number, or none.
+    Shown(Option<i64>),
+    /// The service figure, or none.
+    Served(Option<Figure>),
     /// The side came to a stop with this message.
     Panicked(String),
 }

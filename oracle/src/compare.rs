@@ -44,7 +44,12 @@ pub struct Tally {
     /// Answers of the Rust's sides held against them.
     pub compared: u64,
     pub points: u64,
-    pub refusals: [u64; 17],
+    pub refusals: [u64; 18],
+    /// The panel's figures and the service figures, each given, none and refused; and those of them
+    /// that one or more of the Rust's sides were held to.
+    pub panels: [u64; 3],
+    pub services: [u64; 3],
+    pub figures_beside: u64,
     /// Refused by document 01 alone [D]: not asked of the Rust.
     pub not_asked: u64,
     /// Runs after which the published Rust went another way by its hash order.
@@ -82,6 +87,19 @@ impl Tally {
         *(if kind == Kind::Whole { &mut self.library } else { &mut self.compared }) += 1;
     }
 
+    fn figure(&mut self, call: &Call, answer: &Answer) {
+        let kind = match answer {
+            Answer::Shown(Some(_)) | Answer::Served(Some(_)) => 0,
+            Answer::Shown(None) | Answer::Served(None) => 1,
+            _ => 2,
+        };
+        match call {
+            Call::Panel { .. } => self.panels[kind] += 1,
+            Call::Service { .. } => self.services[kind] += 1,
+            _ => {}
+        }
+    }
+
     pub fn add(&mut self, t: &Tally) {
         self.lists += t.lists;
         self.calls += t.calls;
@@ -106,6 +124,9 @@ impl Tally {
         self.demanded += t.demanded;
         self.outside += t.outside;
         self.broken += t.broken;
+        self.figures_beside += t.figures_beside;
+        self.panels.iter_mut().zip(t.panels).for_each(|(a, b)| *a += b);
+        self.services.iter_mut().zip(t.services).for_each(|(a, b)| *a += b);
         self.refusals.iter_mut().zip(t.refusals).for_each(|(a, b)| *a += b);
     }
 }
@@ -127,7 +148,7 @@ pub fn asked(kind: Kind, call: &Call, leader: &Answer) -> Asked {
     match (kind, call) {
         (Kind::Whole, _) => Asked::Yes,
         (_, Call::Next { .. }) => Asked::Pass,
-        (Kind::Engine, Call::Query { .. } | Call::Auto { .. }) => Asked::Pass,
+        (Kind::Engine, call) if call.reads() => Asked::Pass,
         (_, Call::Consolidate) if refused == 10 => Asked::Stop,
         (_, Call::Open { .. }) if refused != 0 => Asked::Stop,
         _ if refused == 11 => Asked::Pass,
@@ -236,8 +257,7 @@ fn frame(call: &Call, answer: &Answer, before: &Before, after: &State) -> Option
         return None;
     }
     let still = matches!(answer, Answer::Refused(_)) && *call != Call::Consolidate;
-    let reads = matches!(call, Call::Query { .. } | Call::Auto { .. } | Call::Next { .. });
-    if still || reads {
+    if still || call.reads() {
         return Some("a refused or reading call changed bytes or flags".to_string());
     }
     let rows = after.flags.len();
@@ -344,6 +364,7 @@ pub fn run(list: &List, sides: &mut [Box<dyn Side>], tally: &mut Tally) -> Optio
             Answer::Points { points, .. } => tally.points += points.len() as u64,
             _ => {}
         }
+        tally.figure(call, &ours);
         if let &Call::Open { handed: Some(number) } = call {
             before.flags = plain::flags_of(number);
         }
@@ -362,7 +383,7 @@ pub fn run(list: &List, sides: &mut [Box<dyn Side>], tally: &mut Tally) -> Optio
             tally.only_new += only(&after.flags, &old);
             tally.only_old += only(&old, &after.flags);
         }
-        let (mut beside, mut seen_old, mut returned) = (false, false, false);
+        let (mut beside, mut seen_old, mut returned, mut held) = (false, false, false, false);
         for (side, stand) in sides.iter_mut().zip(&mut stands) {
             let rust = side.kind() != Kind::Whole;
             if *stand == Stand::Away && opened && !parts {
@@ -427,7 +448,10 @@ pub fn run(list: &List, sides: &mut [Box<dyn Side>], tally: &mut Tally) -> Optio
                 side.set_marks(&after.marks);
             }
             beside |= opened && rust;
+            held |= rust;
         }
+        let figure = matches!(call, Call::Panel { .. } | Call::Service { .. });
+        tally.figures_beside += (figure && held) as u64;
         tally.beside += beside as u64;
         tally.seen_old += seen_old as u64;
         tally.returned += returned as u64;

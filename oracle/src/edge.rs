@@ -1,7 +1,7 @@
 //! The proved library, through librondo.a (c/include/rondo.h).
 
 use crate::calls::Answer;
-use crate::plain::{Flags, flags_of, get64};
+use crate::plain::{Figure, Flags, flags_of, get64};
 use crate::sides::Library;
 
 unsafe extern "C" {
@@ -51,6 +51,25 @@ unsafe extern "C" {
         start: u64,
         end: u64,
         answer: *mut [u64; 11],
+    ) -> u32;
+    fn rondo_panel(
+        image: *const u8,
+        image_len: usize,
+        flags: u32,
+        schema: u32,
+        column: u32,
+        tier: u32,
+        shown: *mut u32,
+        figure: *mut i64,
+    ) -> u32;
+    fn rondo_service(
+        image: *const u8,
+        image_len: usize,
+        flags: u32,
+        schema: u32,
+        column: u32,
+        tier: u32,
+        figure: *mut [u64; 5],
     ) -> u32;
     fn rondo_next(
         slab: *const u8,
@@ -203,6 +222,46 @@ impl Library for Edge {
             range: (start, end),
             incomplete: incomplete == 1,
             points,
+        }
+    }
+
+    fn panel(
+        &self,
+        image: &[u8],
+        flags: &Flags,
+        (schema, column): (u32, u32),
+        tier: u32,
+    ) -> Answer {
+        let (i, len, f) = (image.as_ptr(), image.len(), number(flags));
+        let (lent_shown, lent_figure) = (LENT as u32, LENT as i64);
+        let (mut shown, mut figure) = (lent_shown, lent_figure);
+        let refused =
+            unsafe { rondo_panel(i, len, f, schema, column, tier, &mut shown, &mut figure) };
+        match (refused, shown) {
+            (0, 1) => Answer::Shown(Some(figure)),
+            (0, 0) if figure == lent_figure => Answer::Shown(None),
+            (1.., _) if (shown, figure) == (lent_shown, lent_figure) => Answer::Refused(refused),
+            _ => panic!("rondo_panel: {refused}, shown {shown:x}, figure {figure:x}"),
+        }
+    }
+
+    fn service(
+        &self,
+        image: &[u8],
+        flags: &Flags,
+        (schema, column): (u32, u32),
+        tier: u32,
+    ) -> Answer {
+        let (i, len, f) = (image.as_ptr(), image.len(), number(flags));
+        let mut figure = [LENT; 5];
+        let refused = unsafe { rondo_service(i, len, f, schema, column, tier, &mut figure) };
+        match (refused, figure) {
+            (0, [1, stamp, value, oldest, newest]) => {
+                Answer::Served(Some(Figure { stamp, value, oldest, newest }))
+            }
+            (0, [0, LENT, LENT, LENT, LENT]) => Answer::Served(None),
+            (1.., [LENT, LENT, LENT, LENT, LENT]) => Answer::Refused(refused),
+            _ => panic!("rondo_service: {refused}, {figure:x?}"),
         }
     }
 

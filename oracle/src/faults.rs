@@ -1,12 +1,13 @@
 //! Libraries with one fault each, set beside the plain reading as a third side would be:
 //! the driver must tell them apart. The faults are those that document 01 wants caught,
-//! its traps, other starts of a reading than that of request 2026-01, and other flags at opening
-//! than those of request 2026-02.
+//! its traps, other starts of a reading than that of request 2026-01, other flags at opening than
+//! those of request 2026-02, and other figures than those of request 2026-04.
 
 use crate::calls::{Answer, Side};
-use crate::compare::{Tally, run, shrink};
+use crate::compare::{List, Tally, run, shrink};
+use crate::figures;
 use crate::generate::{self, Random};
-use crate::plain::{self, FRESH, Flags, HEADER, ROW, Window};
+use crate::plain::{self, FRESH, Figure, Flags, HEADER, ROW, Window};
 use crate::sides::{Lent, Library, Plain};
 
 #[derive(Clone, Copy, Debug, PartialEq)]
@@ -42,6 +43,25 @@ pub enum Fault {
     FlagByFourOfEight,
     FlagsPastROpened,
     RefusedOpeningSets,
+    // Which point the figures are of, and which ends service tools get.
+    FigureOfTheGreatestStamp,
+    FigureOfTheNewestAlone,
+    FigureUpToTheTop,
+    FigureUpToSlot0,
+    FigureRoundAnyRing,
+    EndsOfTheColumn,
+    // What the panel shows, and what is refused.
+    PanelCuts,
+    PanelAddsHalfAndCuts,
+    PanelRoundsTiesAway,
+    PanelIsASingle,
+    PanelShowsZeroForNone,
+    PanelRefusesNone,
+    PanelRefusesTheLimit,
+    PanelShowsOneBeyond,
+    PanelShowsTheInfinite,
+    ServiceRefusesBeyond,
+    FiguresTryTheTierFirst,
 }
 use Fault::*;
 
@@ -104,6 +124,22 @@ impl Fault {
         }
     }
 
+    /// What the panel shows of a value.
+    fn whole(self, x: f64) -> Option<i64> {
+        let limit = (1u64 << 53) as f64;
+        let on_panel = x.abs() <= limit;
+        match self {
+            PanelCuts => on_panel.then_some(x as i64),
+            PanelAddsHalfAndCuts => on_panel.then_some((x + 0.5).floor() as i64),
+            PanelRoundsTiesAway => on_panel.then_some(x.round() as i64),
+            PanelIsASingle => on_panel.then_some((x as f32).round_ties_even() as i64),
+            PanelRefusesTheLimit if x.abs() == limit => None,
+            PanelShowsOneBeyond if x.abs() == limit.next_up() => Some(x as i64),
+            PanelShowsTheInfinite if x.is_infinite() => Some(x as i64),
+            _ => plain::whole(x),
+        }
+    }
+
     fn apply(self) -> plain::Apply {
         match self {
             DividesEachValue => |function, values| match plain::apply(function, values) {
@@ -123,6 +159,26 @@ impl Fault {
 /// A sound image's rows.
 fn rows(image: &[u8]) -> Vec<plain::Row> {
     plain::check(image).map_or(Vec::new(), |c| c.rows)
+}
+
+/// The last point by this flag, whatever the ring's own.
+fn last_with(image: &[u8], flag: bool, handle: (u32, u32), tier: u32) -> Option<(u64, u64)> {
+    match Plain.service(image, &[flag; 32], handle, tier) {
+        Answer::Served(Some(figure)) => Some((figure.stamp, figure.value)),
+        _ => None,
+    }
+}
+
+/// What stands in the cursor's slot, unless it is a NaN.
+fn at_the_cursor(image: &[u8], handle: (u32, u32), tier: u32) -> Option<(u64, u64)> {
+    let own = |r: &plain::Row| r.schema == handle.0 && r.tier == tier;
+    let row = rows(image).into_iter().find(own)?;
+    let slab = &image[row.offset as usize..];
+    let (n, m) = (row.slots() as usize, row.series as usize);
+    let (column, cursor) = (handle.1 as usize, plain::get32(slab, 32) as usize);
+    let stamps = 64 + 4 * m;
+    let value = plain::get64(slab, stamps + 8 * n + 8 * n * column + 8 * cursor);
+    (!plain::nan(value)).then(|| (plain::get64(slab, stamps + 8 * cursor), value))
 }
 
 impl Library for Faulty {
@@ -202,6 +258,46 @@ impl Library for Faulty {
         answer
     }
 
+    fn panel(&self, image: &[u8], flags: &Flags, handle: (u32, u32), tier: u32) -> Answer {
+        let shown = match self.service(image, flags, handle, tier) {
+            Answer::Served(Some(figure)) => self.0.whole(f64::from_bits(figure.value)).map(Some),
+            Answer::Served(None) if self.0 == PanelShowsZeroForNone => Some(Some(0)),
+            Answer::Served(None) if self.0 == PanelRefusesNone => None,
+            Answer::Served(None) => Some(None),
+            refused => return refused,
+        };
+        shown.map_or(Answer::Refused(plain::OFF_PANEL), Answer::Shown)
+    }
+
+    fn service(&self, image: &[u8], flags: &Flags, handle: (u32, u32), tier: u32) -> Answer {
+        let answer = Plain.service(image, flags, handle, tier);
+        let all = Plain.query(image, flags, handle, Some(tier), (0, u64::MAX));
+        let Answer::Points { oldest: Some(oldest), newest: Some(newest), points, .. } = all else {
+            let own = |r: &plain::Row| r.schema == handle.0 && r.tier == tier;
+            let no_tier = answer == Answer::Refused(11) && !rows(image).iter().any(own);
+            let first = self.0 == FiguresTryTheTierFirst && no_tier;
+            return if first { Answer::Refused(14) } else { answer };
+        };
+        let last = points.last().copied();
+        let beyond = |p: (u64, u64)| plain::whole(f64::from_bits(p.1)).is_none();
+        let point = match self.0 {
+            FigureOfTheGreatestStamp => points.iter().copied().max_by_key(|p| p.0),
+            FigureOfTheNewestAlone => last.filter(|p| p.0 == newest),
+            FigureUpToTheTop => at_the_cursor(image, handle, tier).or(last),
+            FigureUpToSlot0 => last_with(image, false, handle, tier),
+            FigureRoundAnyRing => last_with(image, true, handle, tier),
+            ServiceRefusesBeyond if last.is_some_and(beyond) => {
+                return Answer::Refused(plain::OFF_PANEL);
+            }
+            _ => last,
+        };
+        let (oldest, newest) = match (self.0, points.first(), last) {
+            (EndsOfTheColumn, Some(first), Some(last)) => (first.0, last.0),
+            _ => (oldest, newest),
+        };
+        Answer::Served(point.map(|(stamp, value)| Figure { stamp, value, oldest, newest }))
+    }
+
     fn next(&self, slab: &[u8], column: u32, range: (u64, u64), place: (u64, u64)) -> Answer {
         Plain.next(slab, column, range, place)
     }
@@ -255,10 +351,16 @@ impl Library for Faulty {
 
 /// The number of calls in the smallest list that shows the fault.
 fn caught(fault: Fault) -> Option<usize> {
+    caught_by(fault, |i| {
+        let r = &mut Random(i / 2);
+        if i % 2 == 0 { generate::list(r, 60, true) } else { generate::damaged(r) }
+    })
+}
+
+fn caught_by(fault: Fault, make: impl Fn(u64) -> List) -> Option<usize> {
     let mut sides: Vec<Box<dyn Side>> = vec![Box::new(Lent::new("faulty", Faulty(fault)))];
     for i in 0..600 {
-        let r = &mut Random(i / 2);
-        let list = if i % 2 == 0 { generate::list(r, 60, true) } else { generate::damaged(r) };
+        let list = make(i);
         if let Some(d) = run(&list, &mut sides, &mut Tally::default()) {
             return Some(shrink(&list, &mut sides, d).0.calls.len());
         }
@@ -300,6 +402,38 @@ fn each_fault_is_caught_and_no_other() {
         (RefusedOpeningSets, 2),
     ] {
         let calls = caught(fault).unwrap_or_else(|| panic!("{fault:?} was not caught"));
+        println!("{fault:?}: {calls} calls");
+        assert!(calls <= most, "{fault:?}: {calls} calls");
+    }
+}
+
+/// The lists of the part `figures` tell these apart; those of the part `random`, with figures among
+/// their calls, take no sound library for a faulty one.
+#[test]
+fn each_faulty_figure_is_caught() {
+    let figures = |i| figures::list(&mut Random(i));
+    let random = |i| figures::among(&mut Random(i), &|r| generate::list(r, 60, true));
+    assert_eq!((caught_by(None_, figures), caught_by(None_, random)), (None, None));
+    for (fault, most) in [
+        (FigureOfTheGreatestStamp, 4),
+        (FigureOfTheNewestAlone, 4),
+        (FigureUpToTheTop, 4),
+        (FigureUpToSlot0, 3),
+        (FigureRoundAnyRing, 4),
+        (EndsOfTheColumn, 4),
+        (PanelCuts, 3),
+        (PanelAddsHalfAndCuts, 2),
+        (PanelRoundsTiesAway, 2),
+        (PanelIsASingle, 2),
+        (PanelShowsZeroForNone, 1),
+        (PanelRefusesNone, 1),
+        (PanelRefusesTheLimit, 2),
+        (PanelShowsOneBeyond, 2),
+        (PanelShowsTheInfinite, 3),
+        (ServiceRefusesBeyond, 3),
+        (FiguresTryTheTierFirst, 1),
+    ] {
+        let calls = caught_by(fault, figures).unwrap_or_else(|| panic!("{fault:?} was not caught"));
         println!("{fault:?}: {calls} calls");
         assert!(calls <= most, "{fault:?}: {calls} calls");
     }

@@ -6,6 +6,7 @@ mod demand;
 mod edge;
 #[cfg(test)]
 mod faults;
+mod figures;
 mod generate;
 mod opened;
 mod plain;
@@ -211,13 +212,21 @@ fn parts(s: &mut Session, seed: u64, lists: u64, length: u64) {
     s.part("exhaustive, any series", exhaustive_any_series);
     s.part("ranges", |s| ranges(s, seed));
     s.part("plans", |s| each(s, 5 * lists, &generate::odd_plan));
-    s.part("random", |s| each(s, lists, &|r| generate::list(r, length, false)));
-    s.part("poked", |s| each(s, lists, &|r| generate::list(r, length, true)));
-    s.part("any series", |s| each(s, lists, &|r| generate::any_series(r, length)));
+    let some = |s: &mut Session, count: u64, make: &dyn Fn(&mut Random) -> List| {
+        each(s, count, &|r| figures::among(r, make));
+    };
+    s.part("random", |s| some(s, lists, &|r| generate::list(r, length, false)));
+    s.part("poked", |s| some(s, lists, &|r| generate::list(r, length, true)));
+    s.part("any series", |s| some(s, lists, &|r| generate::any_series(r, length)));
     s.part("readers", |s| each(s, lists, &|r| generate::readers(r, length)));
-    s.part("damaged", |s| each(s, 10 * lists, &generate::damaged));
-    s.part("long", |s| each(s, lists / 100, &generate::long));
+    s.part("damaged", |s| some(s, 10 * lists, &generate::damaged));
+    s.part("long", |s| some(s, lists / 100, &generate::long));
     s.part("large", special::large);
+    s.part("figures", |s| each(s, lists, &figures::list));
+    s.part("figures, exhaustive", |s| {
+        figures::values(s);
+        figures::rings(s);
+    });
     let mut sides = opened::both();
     s.part("power cycles", |s| {
         for i in 0..lists / 4 {
@@ -269,8 +278,19 @@ fn main() {
         println!("{name}: {} lists, {} calls, {seconds:.1} s of a thread", own.lists, own.calls);
     }
     let found: u64 = done.iter().map(|d| d.1).sum();
-    println!("refusals 1 to 16: {:?}", &t.refusals[1..]);
+    println!("refusals 1 to 17: {:?}", &t.refusals[1..]);
     println!("{} points handed out, {} calls not asked of a side", t.points, t.not_asked);
+    println!(
+        "figures: of the panel {} shown, {} none, {} refused ({} with 17); for service {} given, {} none, {} refused; of all {} beside the Rust",
+        t.panels[0],
+        t.panels[1],
+        t.panels[2],
+        t.refusals[17],
+        t.services[0],
+        t.services[1],
+        t.services[2],
+        t.figures_beside
+    );
     println!(
         "openings: {} refused, {} accepted; the old rule sets the same flags at {}: {} run beside the Rust, {} in lists \
          for lent bytes only, {} after the Rust had left; other flags at {}: beside the plain reading alone",

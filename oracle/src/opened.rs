@@ -38,7 +38,8 @@ pub fn without_openings(list: &List) -> List {
     list
 }
 
-/// Queries of each column and tier: over all time, and over ranges around the rings' ends.
+/// Queries of each column and tier: over all time, and over ranges around the rings' ends; and both
+/// figures of each tier.
 fn questions(r: &mut Random, plan: &Plan, side: &mut dyn Side) -> Vec<Call> {
     let mut found = Vec::new();
     for (k, schema) in plan.0.iter().enumerate() {
@@ -52,6 +53,9 @@ fn questions(r: &mut Random, plan: &Plan, side: &mut dyn Side) -> Vec<Call> {
             if let Answer::Points { oldest: Some(a), newest: Some(b), .. } = side.call(&all(0)) {
                 ends.extend([a - 1, a, a + 1, b - 1, b, b + 1]);
             }
+            let column = tier % columns;
+            found.push(Call::Panel { schema: k, column, tier });
+            found.push(Call::Service { schema: k, column, tier });
         }
         for _ in 0..2 {
             let (a, b) = (r.of(&ends), r.of(&ends));

@@ -1,8 +1,9 @@
 //! A second reading of document 01, with requests 2026-01 and 2026-02 of document 02 in the place
-//! of the sentences that they alter, in plain Rust: written from the documents alone, so that it
-//! can stand beside rondo and beside the proved library. Clear before fast.
+//! of the sentences that they alter, and request 2026-04 beside them, in plain Rust: written from
+//! the documents alone, so that it can stand beside rondo and beside the proved library. Clear
+//! before fast.
 //!
-//! A refusal is its number in document 01's table. The image is a byte slice, the flags a
+//! A refusal is its number in document 01's table, 17 that of request 2026-04. The image is a byte slice, the flags a
 //! record of 32 wrap flags beside it. No call looks past the image or past flag R - 1.
 
 use std::collections::BTreeSet;
@@ -30,6 +31,7 @@ pub const INVALID_TIMESTAMP: u32 = 13;
 pub const INVALID_TIER: u32 = 14;
 pub const INVALID_TIME_RANGE: u32 = 15;
 pub const NO_CONSOLIDATION_FUNCTION: u32 = 16;
+pub const OFF_PANEL: u32 = 17;
 
 pub const HEADER: usize = 32;
 pub const ROW: usize = 64;
@@ -561,6 +563,61 @@ pub fn query_auto<'a>(
     let both = tiers.iter().rev().find(|&&row| ends(row).0.is_some() && ends(row).1.is_some());
     let row = *full.or(both).unwrap_or(&tiers[0]);
     Ok(answer(image, flags, &c, row, column, range))
+}
+
+// Figures (request 2026-04)
+
+/// What service tools get: a point, and both ends of the reading that handed it out.
+#[derive(Clone, Copy, Debug, PartialEq, Eq)]
+pub struct Figure {
+    pub stamp: u64,
+    pub value: u64,
+    pub oldest: u64,
+    pub newest: u64,
+}
+
+/// Of the last point that a reading over all time hands out; none without one.
+pub fn service(
+    image: &[u8],
+    flags: &Flags,
+    schema: u32,
+    column: u32,
+    tier: u32,
+) -> Result<Option<Figure>, u32> {
+    let Answer { oldest, newest, reader, .. } =
+        query(image, flags, schema, column, tier, (0, u64::MAX))?;
+    let Some((stamp, value)) = reader.last() else {
+        return Ok(None);
+    };
+    let end = |end: Option<u64>| end.expect("a ring with a point has both ends");
+    Ok(Some(Figure { stamp, value, oldest: end(oldest), newest: end(newest) }))
+}
+
+/// The same point's value as a whole number; none without one.
+pub fn panel(
+    image: &[u8],
+    flags: &Flags,
+    schema: u32,
+    column: u32,
+    tier: u32,
+) -> Result<Option<i64>, u32> {
+    match service(image, flags, schema, column, tier)? {
+        None => Ok(None),
+        Some(point) => whole(f64::from_bits(point.value)).map(Some).ok_or(OFF_PANEL),
+    }
+}
+
+/// The nearest whole number, of two that are equally near the even one; none beyond 2^53 either
+/// way. Without its sign, what a number has behind the point is a double, and so exact.
+pub fn whole(value: f64) -> Option<i64> {
+    let size = value.abs();
+    if size > 9_007_199_254_740_992.0 {
+        return None;
+    }
+    let (below, rest) = (size.trunc() as i64, size.fract());
+    let up = rest > 0.5 || (rest == 0.5 && below % 2 == 1);
+    let nearest = if up { below + 1 } else { below };
+    Some(if value < 0.0 { -nearest } else { nearest })
 }
 
 // Consolidate

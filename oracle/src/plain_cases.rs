@@ -1,5 +1,5 @@
-//! Document 01's marked cases A to L, the rows of requests 2026-01 and 2026-02, and the order of
-//! the refusals.
+//! Document 01's marked cases A to L, the rows of requests 2026-01, 2026-02 and 2026-04, and the
+//! order of the refusals.
 
 use super::*;
 use crate::calls::{Plan, Schema, Tier, entry_bytes};
@@ -287,6 +287,108 @@ fn flags_not_as_left() {
     assert_eq!(stamps(&s), [20, 30, 40, 50]);
 }
 
+/// Request 2026-04: what the panel shows of a value, its own rows first.
+#[test]
+fn whole_numbers() {
+    let limit = 9_007_199_254_740_992.0;
+    for (value, shown) in [
+        (-0.5, Some(0)),
+        (1.5, Some(2)),
+        (-2.5, Some(-2)),
+        (0.0, Some(0)),
+        (-0.0, Some(0)),
+        (0.5f64.next_up(), Some(1)),
+        (0.5f64.next_down(), Some(0)),
+        (-0.75, Some(-1)),
+        (2.4, Some(2)),
+        (3.5, Some(4)),
+        (f64::from_bits(1), Some(0)),
+        (limit / 2.0 - 0.5, Some(1 << 52)),
+        (limit / 2.0 - 1.5, Some((1 << 52) - 2)),
+        (limit - 1.0, Some((1 << 53) - 1)),
+        (limit, Some(1 << 53)),
+        (-limit, Some(-(1 << 53))),
+        (limit.next_up(), None),
+        (-limit.next_up(), None),
+        (f64::MAX, None),
+        (f64::INFINITY, None),
+        (f64::NEG_INFINITY, None),
+    ] {
+        assert_eq!(whole(value), shown, "{value:?}");
+    }
+}
+
+/// The same held against the value as a fraction of integers: twice the distance is at most the
+/// divisor, and where it is the divisor the number is even.
+#[test]
+fn whole_numbers_are_nearest() {
+    let mut r = crate::generate::Random(4);
+    let (mut ties, mut shown) = (0, 0);
+    for _ in 0..400_000 {
+        let bits = crate::figures::value(&mut r);
+        let (sign, exponent) = (bits >> 63, (bits >> 52 & 0x7ff) as i32);
+        let Some(whole) = whole(f64::from_bits(bits)) else {
+            assert!(bits & !(1 << 63) > 0x4340_0000_0000_0000);
+            continue;
+        };
+        assert!(bits & !(1 << 63) <= 0x4340_0000_0000_0000);
+        shown += 1;
+        if exponent < 1000 {
+            assert_eq!(whole, 0);
+            continue;
+        }
+        // value = top / 2^75
+        let significand = (bits & ((1 << 52) - 1) | 1 << 52) as i128;
+        let size = significand << (exponent - 1000);
+        let top = if sign == 1 { -size } else { size };
+        let distance = 2 * (top - ((whole as i128) << 75)).abs();
+        assert!(distance <= 1 << 75, "{bits:x}: {whole}");
+        if distance == 1 << 75 {
+            assert!(whole % 2 == 0, "{bits:x}: {whole}");
+            ties += 1;
+        }
+    }
+    assert!(ties > 50_000 && shown > 300_000, "{ties} {shown}");
+}
+
+/// Request 2026-04: the last point in reading order; without one neither number nor ends.
+#[test]
+fn figures_of_case_e() {
+    let mut s = case_d();
+    let four = Figure { stamp: 40, value: 4f64.to_bits(), oldest: 10, newest: 40 };
+    assert_eq!(service(&s.0, &s.1, 0, 0, 0), Ok(Some(four)));
+    assert_eq!(panel(&s.0, &s.1, 0, 0, 0), Ok(Some(4)));
+    put(&mut s, 15, f64::NAN);
+    let four = Figure { oldest: 20, newest: 15, ..four };
+    assert_eq!(service(&s.0, &s.1, 0, 0, 0), Ok(Some(four)));
+    assert_eq!(panel(&s.0, &s.1, 0, 0, 0), Ok(Some(4)));
+    // The last is 15's, not that of the greatest stamp.
+    put(&mut s, 15, 0.5);
+    let half = Figure { stamp: 15, value: 0.5f64.to_bits(), ..four };
+    assert_eq!(service(&s.0, &s.1, 0, 0, 0), Ok(Some(half)));
+    assert_eq!(panel(&s.0, &s.1, 0, 0, 0), Ok(Some(0)));
+    // The other column has no value; nor has a fresh ring.
+    assert_eq!((service(&s.0, &s.1, 0, 1, 0), panel(&s.0, &s.1, 0, 1, 0)), (Ok(None), Ok(None)));
+}
+
+/// Request 2026-04: 11, then 14, then 17, for the panel only and only where there is a point.
+#[test]
+fn refusals_of_figures() {
+    let mut s = made(&plan_of(&[(10, 4, 0), (20, 4, 1)]));
+    let asked = |s: &(Vec<u8>, Flags), schema, column, tier| {
+        let (panel, service) =
+            (panel(&s.0, &s.1, schema, column, tier), service(&s.0, &s.1, schema, column, tier));
+        (panel.err(), service.err())
+    };
+    put(&mut s, 20, 1e300);
+    assert_eq!(asked(&s, 0, 2, 2), (Some(INVALID_HANDLE), Some(INVALID_HANDLE)));
+    assert_eq!(asked(&s, 1, 0, 0), (Some(INVALID_HANDLE), Some(INVALID_HANDLE)));
+    assert_eq!(asked(&s, 0, 0, 2), (Some(INVALID_TIER), Some(INVALID_TIER)));
+    assert_eq!(asked(&s, 0, 0, 0), (Some(OFF_PANEL), None));
+    assert_eq!(asked(&s, 0, 0, 1), (None, None));
+    assert_eq!(asked(&s, 0, 1, 0), (None, None));
+}
+
 #[test]
 fn sums_start_from_negative_zero() {
     let bits = |w| match w {
@@ -353,6 +455,8 @@ fn each_call_on_a_damaged_image() {
         assert_eq!(record_batch(&mut s.0, &mut s.1, &[], 0), Err(number));
         assert_eq!(query(&s.0, &s.1, 9, 9, 9, (1, 0)).err(), Some(number));
         assert_eq!(query_auto(&s.0, &s.1, 9, 9, (1, 0)).err(), Some(number));
+        assert_eq!(panel(&s.0, &s.1, 9, 9, 9), Err(number));
+        assert_eq!(service(&s.0, &s.1, 9, 9, 9), Err(number));
         assert_eq!(consolidate(&mut s.0, &mut s.1), Err(number));
         assert!(s == before);
         s.0[at] = old;

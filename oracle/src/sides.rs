@@ -29,7 +29,7 @@ pub fn all() -> Vec<Box<dyn Side>> {
     ]
 }
 
-/// Document 01's calls on lent bytes. 0 is accepted, else the refusal's number.
+/// Document 01's calls on lent bytes, and request 2026-04's. 0 is accepted, else the refusal's number.
 pub trait Library {
     fn create(&self, plan: &[u8], image: &mut [u8], flags: &mut Flags) -> u32;
     fn open(&self, image: &[u8], flags: &mut Flags) -> u32;
@@ -45,6 +45,8 @@ pub trait Library {
         tier: Option<u32>,
         range: (u64, u64),
     ) -> Answer;
+    fn panel(&self, image: &[u8], flags: &Flags, handle: (u32, u32), tier: u32) -> Answer;
+    fn service(&self, image: &[u8], flags: &Flags, handle: (u32, u32), tier: u32) -> Answer;
     /// One step of a reader made by hand.
     fn next(&self, slab: &[u8], column: u32, range: (u64, u64), place: (u64, u64)) -> Answer;
     fn consolidate(&self, image: &mut [u8], flags: &mut Flags) -> Answer;
@@ -95,6 +97,27 @@ impl Library for Plain {
                 points: a.reader.collect(),
             },
         }
+    }
+
+    fn panel(
+        &self,
+        image: &[u8],
+        flags: &Flags,
+        (schema, column): (u32, u32),
+        tier: u32,
+    ) -> Answer {
+        plain::panel(image, flags, schema, column, tier).map_or_else(Answer::Refused, Answer::Shown)
+    }
+
+    fn service(
+        &self,
+        image: &[u8],
+        flags: &Flags,
+        (schema, column): (u32, u32),
+        tier: u32,
+    ) -> Answer {
+        plain::service(image, flags, schema, column, tier)
+            .map_or_else(Answer::Refused, Answer::Served)
     }
 
     fn next(&self, slab: &[u8], column: u32, range: (u64, u64), place: (u64, u64)) -> Answer {
@@ -177,6 +200,12 @@ impl<L: Library> Side for Lent<L> {
             }
             &Call::Auto { schema, column, start, end } => {
                 library.query(image, flags, (schema, column), None, (start, end))
+            }
+            &Call::Panel { schema, column, tier } => {
+                library.panel(image, flags, (schema, column), tier)
+            }
+            &Call::Service { schema, column, tier } => {
+                library.service(image, flags, (schema, column), tier)
             }
             &Call::Next { part, column, range, place } => {
                 let to = part.1.min(image.len());

@@ -229,6 +229,7 @@ impl Writer {
                 let place = place.min(self.image.len() - 8);
                 self.call(8, 0, &words(&[place as u64, get64(&self.image, place)]));
             }
+            Call::Panel { .. } | Call::Service { .. } => unreachable!("the list has no figures"),
             Call::Next { .. } | Call::Damage { .. } | Call::Cut { .. } => unreachable!(),
         }
     }
