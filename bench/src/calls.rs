@@ -39,6 +39,11 @@ pub trait Side {
     /// A query's answer alone: no point is read.
     fn ask(&mut self, column: u32, tier: u32, start: u64, end: u64);
     fn ask_auto(&mut self, column: u32, start: u64, end: u64);
+    /// The panel's figure: the last point's value over all time, as a whole number. The Rust has no such call: it is asked for
+    /// all points, and the last is taken.
+    fn panel(&mut self, column: u32, tier: u32) -> Option<i64>;
+    /// The service figure, in the same way: stamp, value's pattern, oldest, newest.
+    fn service(&mut self, column: u32, tier: u32) -> Option<[u64; 4]>;
     fn consolidate(&mut self) -> u64;
     /// Sets the mark of the pair of tiers 0 and 1, as if a run had ended there.
     fn set_mark(&mut self, mark: u64);

@@ -6,7 +6,7 @@
 //!   bench --side ours|rust        one side
 //!   bench --turns N [--idle]      N turns of a measure once, no timing, or what goes before them alone: for callgrind
 //!   bench --repetitions N         7 unless given
-//!   bench --list                  the measures: turns for callgrind, what a turn counts for, name
+//!   bench --list                  the measures: turns for callgrind of the Rust and of ours, what a turn counts for, name
 //!   bench --fill                  creation beside memset on the same slice: bytes a second
 mod calls;
 mod ours;
@@ -62,8 +62,9 @@ type Turn = Box<dyn Fn(&mut dyn Side, u64)>;
 struct Measure {
     name: &'static str,
     unit: &'static str,
-    /// Turns of a repetition, and what a turn counts for; turns under callgrind.
+    /// Turns of a repetition (of the Rust's, where it makes fewer), and what a turn counts for; turns under callgrind.
     turns: u64,
+    rust_turns: Option<u64>,
     per_turn: u64,
     counted: u64,
     plan: Plan,
@@ -122,6 +123,7 @@ fn flags(name: &'static str, turns: u64, counted: u64, plan: Plan, fill: Step) -
         name,
         unit: "an opening",
         turns,
+        rust_turns: None,
         per_turn: 1,
         counted,
         plan,
@@ -133,6 +135,68 @@ fn flags(name: &'static str, turns: u64, counted: u64, plan: Plan, fill: Step) -
         before: None,
         turn: Box::new(|side, _| side.flags()),
     }
+}
+
+/// What column 1 of a wrapped ring has: values; values and a NaN at the cursor; NaN alone; values at stamps that no reading
+/// hands out, which no list of calls leaves; values in the last slot and the first, all others empty.
+#[derive(Clone, Copy, PartialEq)]
+enum Column {
+    Full,
+    NanLast,
+    Nan,
+    Top,
+    Ends,
+}
+
+fn fill_column(side: &mut dyn Side, slots: u64, column: Column) {
+    // at() begins an hour behind slot 0
+    let (first, count) = match column {
+        Column::Ends => (2 * slots - 1 - 3600 % slots, 2),
+        _ => (0, slots + 100),
+    };
+    if column == Column::Nan {
+        (0..count).for_each(|s| side.record(0, s as f64, at(s)));
+    } else {
+        side.entries(2);
+        seconds(side, first, count);
+    }
+    let last = match column {
+        Column::Full | Column::Ends => Some(at(first + count - 1)),
+        Column::NanLast => {
+            side.record(1, f64::NAN, at(count - 1));
+            Some(at(count - 2))
+        }
+        Column::Nan => None,
+        Column::Top => {
+            side.set_stamps(&vec![u64::MAX; slots as usize]);
+            None
+        }
+    };
+    assert_eq!((side.panel(1, 0), side.service(1, 0).map(|f| f[0])), (last.map(|_| 1), last));
+}
+
+/// A figure of column 1, the ring of seconds having so many slots.
+fn figure(name: &'static str, turns: u64, slots: u64, column: Column, ask: fn(&mut dyn Side)) -> Measure {
+    Measure {
+        name,
+        unit: "a call",
+        turns,
+        rust_turns: Some(if slots > 100_000 { 3 } else { 200 }),
+        per_turn: 1,
+        counted: turns.min(2000),
+        plan: three_from(slots),
+        setup: Box::new(move |side| fill_column(side, slots, column)),
+        before: None,
+        turn: Box::new(move |side, _| ask(side)),
+    }
+}
+
+fn panel(side: &mut dyn Side) {
+    black_box(side.panel(1, 0));
+}
+
+fn service(side: &mut dyn Side) {
+    black_box(side.service(1, 0));
 }
 
 /// A run after `new` seconds, in a full ring of `slots` seconds.
@@ -157,6 +221,7 @@ fn run(name: &'static str, turns: u64, series: u32, slots: u64, new: u64) -> Mea
         name,
         unit: "a run",
         turns,
+        rust_turns: None,
         per_turn: 1,
         counted: 2,
         plan,
@@ -206,6 +271,7 @@ fn falls(name: &'static str, turns: u64, series: u32, slots: u64, stamps: Vec<u6
         name,
         unit: "a run",
         turns,
+        rust_turns: None,
         per_turn: 1,
         counted: 1,
         plan,
@@ -222,6 +288,7 @@ fn measures() -> Vec<Measure> {
         name,
         unit: "a call",
         turns,
+        rust_turns: None,
         per_turn: 1,
         counted,
         plan,
@@ -315,6 +382,20 @@ fn measures() -> Vec<Measure> {
         alone("query alone, 32 rows", 200_000, rings(8, 4), Box::new(three_hours), Box::new(ask)),
         alone("query_auto alone, 3 rows", 200_000, three(2), Box::new(three_hours), Box::new(ask_auto)),
         alone("query_auto alone, 1,240 empty slots first", 20_000, three(2), Box::new(late), Box::new(ask_auto)),
+        figure("panel, 3,600 slots", 200_000, 3600, Column::Full, panel),
+        figure("panel, 10^6 slots", 200_000, 1_000_000, Column::Full, panel),
+        figure("panel, NaN at the cursor, 10^6 slots", 200_000, 1_000_000, Column::NanLast, panel),
+        figure("panel, a column of NaN, 3,600 slots", 2000, 3600, Column::Nan, panel),
+        figure("panel, a column of NaN, 10^6 slots", 10, 1_000_000, Column::Nan, panel),
+        figure("panel, every stamp 2^64 - 1, 3,600 slots", 2000, 3600, Column::Top, panel),
+        figure("panel, every stamp 2^64 - 1, 10^6 slots", 10, 1_000_000, Column::Top, panel),
+        figure("service, 3,600 slots", 200_000, 3600, Column::Full, service),
+        figure("service, 10^6 slots", 200_000, 1_000_000, Column::Full, service),
+        figure("service, NaN at the cursor, 10^6 slots", 200_000, 1_000_000, Column::NanLast, service),
+        figure("service, a column of NaN, 3,600 slots", 2000, 3600, Column::Nan, service),
+        figure("service, a column of NaN, 10^6 slots", 10, 1_000_000, Column::Nan, service),
+        figure("service, empty slots first, 3,600 slots", 20_000, 3600, Column::Ends, service),
+        figure("service, empty slots first, 10^6 slots", 100, 1_000_000, Column::Ends, service),
         run("run after each second", 60, 2, 7200, 1),
         run("run after a minute (1 new window)", 20, 2, 7200, 60),
         run("run after ten minutes (10)", 10, 2, 7200, 600),
@@ -366,12 +447,12 @@ fn now() -> f64 {
 }
 
 /// Nanoseconds for each of what a turn counts.
-fn repetition(m: &Measure, side: &mut dyn Side) -> f64 {
+fn repetition(m: &Measure, side: &mut dyn Side, turns: u64) -> f64 {
     side.create(&m.plan);
     (m.setup)(side);
     let mut spent = 0.0;
     if let Some(before) = &m.before {
-        for i in 0..m.turns {
+        for i in 0..turns {
             before(side, i);
             let start = now();
             (m.turn)(side, i);
@@ -379,12 +460,12 @@ fn repetition(m: &Measure, side: &mut dyn Side) -> f64 {
         }
     } else {
         let start = now();
-        for i in 0..m.turns {
+        for i in 0..turns {
             (m.turn)(side, i);
         }
         spent = now() - start;
     }
-    spent / (m.turns * m.per_turn) as f64
+    spent / (turns * m.per_turn) as f64
 }
 
 fn shown(ns: f64) -> String {
@@ -436,13 +517,13 @@ fn main() {
     let only = option("--only");
     let chosen = measures().into_iter().filter(|m| only.is_none_or(|o| m.name == o));
     if let Some(turns) = option("--turns") {
+        let turns = turns.parse().unwrap();
         for mut m in chosen {
-            m.turns = turns.parse().unwrap();
             if args.iter().any(|a| a == "--idle") {
                 m.turn = Box::new(|_, _| ());
             }
             for name in &names {
-                repetition(&m, &mut *make(name));
+                repetition(&m, &mut *make(name), turns);
             }
         }
         return;
@@ -452,7 +533,8 @@ fn main() {
         return;
     }
     if args.iter().any(|a| a == "--list") {
-        chosen.for_each(|m| println!("{}\t{}\t{}", m.counted, m.per_turn, m.name));
+        let rust = |m: &Measure| m.rust_turns.map_or(m.counted, |turns| turns.min(m.counted));
+        chosen.for_each(|m| println!("{}\t{}\t{}\t{}", rust(&m), m.counted, m.per_turn, m.name));
         return;
     }
     for m in chosen {
@@ -460,8 +542,9 @@ fn main() {
         let mut times: Vec<Vec<f64>> = vec![Vec::new(); sides.len()];
         // In turn, so that a busy moment of the machine meets both sides.
         for _ in 0..repetitions {
-            for (side, t) in sides.iter_mut().zip(&mut times) {
-                t.push(repetition(&m, &mut **side));
+            for ((side, t), name) in sides.iter_mut().zip(&mut times).zip(&names) {
+                let turns = if *name == "ours" { m.turns } else { m.rust_turns.unwrap_or(m.turns) };
+                t.push(repetition(&m, &mut **side, turns));
             }
         }
         print!("| {}, {} |", m.name, m.unit);
@@ -471,7 +554,10 @@ fn main() {
         }
         if let [rust, ours] = &times[..] {
             let ratio = ours[ours.len() / 2] / rust[rust.len() / 2];
-            print!(" {ratio:.*} |", if ratio < 0.1 { 3 } else { 2 });
+            match ratio {
+                _ if ratio < 0.001 => print!(" {ratio:.1e} |"),
+                _ => print!(" {ratio:.*} |", if ratio < 0.1 { 3 } else { 2 }),
+            }
         }
         println!();
     }

@@ -11,6 +11,8 @@ unsafe extern "C" {
     fn rondo_record_batch(image: *mut u8, image_len: usize, flags: *mut u32, entries: *const u8, entries_len: usize, stamp: u64) -> u32;
     fn rondo_query(image: *const u8, image_len: usize, flags: u32, schema: u32, column: u32, tier: u32, start: u64, end: u64, answer: *mut [u64; 11]) -> u32;
     fn rondo_query_auto(image: *const u8, image_len: usize, flags: u32, schema: u32, column: u32, start: u64, end: u64, answer: *mut [u64; 11]) -> u32;
+    fn rondo_panel(image: *const u8, image_len: usize, flags: u32, schema: u32, column: u32, tier: u32, shown: *mut u32, figure: *mut i64) -> u32;
+    fn rondo_service(image: *const u8, image_len: usize, flags: u32, schema: u32, column: u32, tier: u32, figure: *mut [u64; 5]) -> u32;
     fn rondo_next(slab: *const u8, slab_len: usize, column: u32, start: u64, end: u64, place: *mut u64, point: *mut [u64; 2]) -> u32;
     fn rondo_read(slab: *const u8, slab_len: usize, column: u32, start: u64, end: u64, place: *mut u64, words: *mut u64, words_len: usize) -> usize;
     fn rondo_consolidate(image: *mut u8, image_len: usize, flags: *mut u32, count: *mut u64) -> u32;
@@ -158,6 +160,21 @@ impl Side for Ours {
         let done = unsafe { rondo_query_auto(i.as_ptr(), i.len(), self.flags, 0, column, start, end, &mut answer) };
         assert_eq!(done, 0);
         black_box(&answer);
+    }
+
+    fn panel(&mut self, column: u32, tier: u32) -> Option<i64> {
+        let (i, mut shown, mut figure) = (&self.image, 0, 0);
+        let done = unsafe { rondo_panel(i.as_ptr(), i.len(), self.flags, 0, column, tier, &mut shown, &mut figure) };
+        assert_eq!(done, 0);
+        (shown != 0).then_some(figure)
+    }
+
+    fn service(&mut self, column: u32, tier: u32) -> Option<[u64; 4]> {
+        let (i, mut figure) = (&self.image, [0; 5]);
+        let done = unsafe { rondo_service(i.as_ptr(), i.len(), self.flags, 0, column, tier, &mut figure) };
+        assert_eq!(done, 0);
+        let [present, words @ ..] = figure;
+        (present != 0).then_some(words)
     }
 
     fn consolidate(&mut self) -> u64 {

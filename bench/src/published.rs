@@ -113,6 +113,17 @@ impl Side for Published {
         black_box(&self.store().query_auto(handle(column), start, end).unwrap());
     }
 
+    fn panel(&mut self, column: u32, tier: u32) -> Option<i64> {
+        let last = self.store().query(handle(column), tier as usize, 0, u64::MAX).unwrap().last();
+        last.map(|(_, value)| value.round_ties_even() as i64)
+    }
+
+    fn service(&mut self, column: u32, tier: u32) -> Option<[u64; 4]> {
+        let found = self.store().query(handle(column), tier as usize, 0, u64::MAX).unwrap();
+        let (oldest, newest) = found.available_range();
+        found.last().map(|(stamp, value)| [stamp, value.to_bits(), oldest.unwrap(), newest.unwrap()])
+    }
+
     fn consolidate(&mut self) -> u64 {
         self.store().consolidate().unwrap() as u64
     }
