@@ -18,10 +18,11 @@ use Rattle.laws.specs.Tests.{lt-is, eq-is, and-left, and-right}
 use Rattle.image_theory.specs.Good.{Good, good-open, open-good}
 use Rattle.image_theory.specs.Frame.{length-write, good-write, schemas-with, rows-with}
 use Rattle.image_theory.specs.Stays.{finest}
+use Rattle.rows.specs.First.{first-one}
 use Rattle.ring_write.specs.Stored.{Columns}
 use Rattle.lookup.specs.Handle.{series-there}
-use Rattle.batch_entries.specs.Entries.{fits, finite, isSome, fits-are, finites-are}
-use Rattle.batch.specs.Done.{BatchDone}
+use Rattle.batch_entries.specs.Entries.{fits, finite, taken, isSome, fits-are, finites-are, takens-are}
+use Rattle.batch.specs.Done.{Checked, BatchDone}
 
 -- ---- the columns of schema k's entries are below its max series
 
@@ -140,7 +141,7 @@ module _ {l₀ : Lent} {es : List Entry} {t c : ℕ} {l : Lent} {k : ℕ} (r : R
   pub ends : c ≤ k → l ≡ writeSchemas l₀ 0 c es t
   ends h = sym (schemas-end l k c es t h) ∙ r .rest
 
--- ---- the outcome
+-- ---- how many entries
 
 length-from : (b : List ℕ) (i k : ℕ) → length (entriesFrom b i k) ≡ k
 unfolding entriesFrom
@@ -151,54 +152,60 @@ pub length-entries : (b : List ℕ) → length (entries b) ≡ length b / 16
 unfolding entries
 length-entries b = length-from b 0 (length b / 16)
 
-no-entries : (l : Lent) (t k j : ℕ) → writeSchemas l k j [] t ≡ l
-unfolding writeSchemas entriesOf writeSome
-no-entries l t k zero = refl
-no-entries l t k (suc j) = no-entries l t (suc k) j
+-- ---- the check, whatever the flags
+
+module _ (s : List ℕ) (t : ℕ) (h : openCheck s ≡ 0) where
+  abbrev with-flags : List Bool → Lent
+  with-flags bs = record { image = s; flags = bs }
+
+  pub empty-batch : (es : List Entry) → length es ≡ 0 → Checked s es t 0
+  empty-batch [] z = record { number-is = λ bs. unfold batchCheck in (sym h) }
+  empty-batch (x ∷ es) z = absurd (omega arith)
+
+  pub refused-handle : (es : List Entry) → length es ≢ 0 → everyEntry (fits s) es ≡ false → Checked s es t 11
+  refused-handle [] z e = absurd (z refl)
+  refused-handle (x ∷ es) z e = record { number-is = λ bs. unfold batchCheck first unless in (rw (h, fits-are (with-flags bs) (x ∷ es), e)) }
+
+  pub refused-stamp : (es : List Entry) → length es ≢ 0 → everyEntry (fits s) es ≡ true → stampOk t ≡ false → Checked s es t 13
+  refused-stamp [] z e a = absurd (z refl)
+  refused-stamp (x ∷ es) z e a = record { number-is = λ bs. unfold batchCheck first unless in (rw (h, fits-are (with-flags bs) (x ∷ es), e, a)) }
+
+  pub refused-value : (es : List Entry) → length es ≢ 0 → everyEntry (fits s) es ≡ true → stampOk t ≡ true → everyEntry finite es ≡ false → Checked s es t 12
+  refused-value [] z e a b = absurd (z refl)
+  refused-value (x ∷ es) z e a b = record { number-is = λ bs. unfold batchCheck first unless in (rw (h, fits-are (with-flags bs) (x ∷ es), e, a, finites-are (x ∷ es), b)) }
+
+  -- 18, by whether every entry's ring takes the stamp, x
+  pub last-check : (es : List Entry) → length es ≢ 0 → everyEntry (fits s) es ≡ true → stampOk t ≡ true → everyEntry finite es ≡ true → {x : Bool} → everyEntry (taken s t) es ≡ x
+      → Checked s es t (unless x 18)
+  last-check [] z e a b d = absurd (z refl)
+  last-check (y ∷ es) z e a b {x} d = record { number-is = go }
+    where
+      go : (bs : List Bool) → unless x 18 ≡ batchCheck (with-flags bs) (y ∷ es) t
+      go bs = unfold batchCheck first unless in (rw (h, fits-are (with-flags bs) (y ∷ es), e, a, finites-are (y ∷ es), b, takens-are (with-flags bs) t (y ∷ es), d) (sym (first-one (unless x 18))))
+
+-- ---- the outcome
 
 module _ (l : Lent) (t : ℕ) where
   -- a refusal leaves what was lent
-  refused : (es : List Entry) (n : ℕ) → suc n ≡ batchCheck l es t → BatchDone l es t (suc n) l
+  pub refused : (es : List Entry) (n : ℕ) → n ≡ batchCheck l es t → n ≢ 0 → BatchDone l es t n l
   unfolding batchOn
-  refused es n e = record { answer-is = e; lent-is = rw (← e) refl }
+  refused es zero e z = absurd (z refl)
+  refused es (suc n) e z = record { answer-is = e; lent-is = rw (← e) refl }
 
   pub not-opened : (es : List Entry) (n : ℕ) → n ≡ openCheck (l .image) → n ≢ 0 → BatchDone l es t n l
   not-opened es zero e h = absurd (h refl)
-  not-opened [] (suc n) e h = refused [] n (unfold batchCheck in e)
-  not-opened (x ∷ es) (suc n) e h = refused (x ∷ es) n (unfold batchCheck first in (rw (← e)))
+  not-opened [] (suc n) e h = refused [] (suc n) (unfold batchCheck in e) h
+  not-opened (x ∷ es) (suc n) e h = refused (x ∷ es) (suc n) (unfold batchCheck first in (rw (← e))) h
 
-  module _ (h : openCheck (l .image) ≡ 0) where
-    accepted : (es : List Entry) {u : Lent} → batchCheck l es t ≡ 0 → u ≡ writeSchemas l 0 (schemas (l .image)) es t → BatchDone l es t 0 u
-    unfolding batchOn
-    accepted es e w = record { answer-is = sym e; lent-is = w ∙ rw e }
+  -- the handles are within bounds, and the writes are made
+  pub all-fit : (es : List Entry) → openCheck (l .image) ≡ 0 → 0 ≡ batchCheck l es t → everyEntry (fits (l .image)) es ≡ true
+  all-fit [] h e = unfold everyEntry in refl
+  all-fit (x ∷ es) h e = go (everyEntry (fits (l .image)) (x ∷ es)) refl
+    where
+      go : (b : Bool) → everyEntry (fits (l .image)) (x ∷ es) ≡ b → b ≡ true
+      go true q = refl
+      go false q = absurd (omega (arith, e ∙ sym (refused-handle (l .image) t h (x ∷ es) (λ z. omega arith) q .number-is (l .flags))))
 
-    -- an empty batch
-    pub empty-batch : (es : List Entry) → length es ≡ 0 → BatchDone l es t 0 l
-    empty-batch [] z = accepted [] (unfold batchCheck in h) (sym (no-entries l t 0 (schemas (l .image))))
-    empty-batch (x ∷ es) z = absurd (omega arith)
-
-    pub refused-handle : (es : List Entry) → length es ≢ 0 → everyEntry (fits (l .image)) es ≡ false → BatchDone l es t 11 l
-    refused-handle [] z e = absurd (z refl)
-    refused-handle (x ∷ es) z e = refused (x ∷ es) 10 (unfold batchCheck first unless in (rw (h, fits-are l (x ∷ es), e)))
-
-    module _ (es : List Entry) (z : length es ≢ 0) (e : everyEntry (fits (l .image)) es ≡ true) where
-      pub refused-stamp : stampOk t ≡ false → BatchDone l es t 13 l
-      refused-stamp a = refused es 12 (go es z e)
-        where
-          go : (es : List Entry) → length es ≢ 0 → everyEntry (fits (l .image)) es ≡ true → 13 ≡ batchCheck l es t
-          go [] z e = absurd (z refl)
-          go (x ∷ es) z e = unfold batchCheck first unless in (rw (h, fits-are l (x ∷ es), e, a))
-
-      pub refused-value : stampOk t ≡ true → everyEntry finite es ≡ false → BatchDone l es t 12 l
-      refused-value a b = refused es 11 (go es z e b)
-        where
-          go : (es : List Entry) → length es ≢ 0 → everyEntry (fits (l .image)) es ≡ true → everyEntry finite es ≡ false → 12 ≡ batchCheck l es t
-          go [] z e b = absurd (z refl)
-          go (x ∷ es) z e b = unfold batchCheck first unless in (rw (h, fits-are l (x ∷ es), e, a, finites-are (x ∷ es), b))
-
-      pub recorded : {u : Lent} → stampOk t ≡ true → everyEntry finite es ≡ true → u ≡ writeSchemas l 0 (schemas (l .image)) es t → BatchDone l es t 0 u
-      recorded a b w = accepted es (go es z e b) w
-        where
-          go : (es : List Entry) → length es ≢ 0 → everyEntry (fits (l .image)) es ≡ true → everyEntry finite es ≡ true → batchCheck l es t ≡ 0
-          go [] z e b = absurd (z refl)
-          go (x ∷ es) z e b = unfold batchCheck first unless in (rw (h, fits-are l (x ∷ es), e, a, finites-are (x ∷ es), b))
+  pub recorded : (es : List Entry) {u : Lent} → 0 ≡ batchCheck l es t → u ≡ writeSchemas l 0 (schemas (l .image)) es t → BatchDone l es t 0 u
+  unfolding batchOn
+  recorded es e w = record { answer-is = e; lent-is = w ∙ rw (← e) }

@@ -1,5 +1,5 @@
-// `record_batch` by value, with the flags as one number or as a record: opening's order on every call, then 11 for any entry, 13, 12, then one write to the
-// finest ring of each schema that has entries (Rust's `Store::record_batch`). A refused batch stores nothing; an empty one is accepted at any stamp and changes nothing.
+// `record_batch` by value, with the flags as one number or as a record: opening's order on every call, then 11 for any entry, 13, 12, 18 for any entry's ring, then
+// one write to the finest ring of each schema that has entries (Rust's `Store::record_batch`). A refused batch stores nothing; an empty one is accepted at any stamp and changes nothing.
 ghost use mathlib.Core.Path.{_≡_};
 ghost use mathlib.Core.Bool.{true};
 ghost use Prim.Native.Nat.{_<_};
@@ -9,7 +9,7 @@ ghost use Rattle.model.specs.Record.{entries, entriesOf, everyEntry, writeTo, w
 ghost use Rattle.lookup.specs.Parts.{lentOf};
 ghost use Rattle.flag_bits.specs.One.{lentAt};
 ghost use Rattle.batch_entries.specs.Entries.{fits};
-ghost use Rattle.batch.specs.Done.{BatchDone};
+ghost use Rattle.batch.specs.Done.{Checked, BatchDone};
 
 // Writes a schema's entries to its finest ring. Answers the flags.
 fn store_schema(image: &mut [u8], flags: u32, schema: u64, batch: &[u8], stamp: u64) -> u32
@@ -48,38 +48,45 @@ fn store_schemas(image: &mut [u8], flags: u32, batch: &[u8], stamp: u64) -> u32
     next
 }
 
-// Records a batch, once opening's check has passed: nothing for an empty one, else 11, 13, 12, or the writes.
+// Why a batch is refused, once opening's check has passed: an empty one is not, else 11, 13, 12, 18.
+fn check_batch(image: &[u8], batch: &[u8], stamp: u64) -> model::Outcome
+    requires { ⌜ openCheck (now image) ≡ 0 ⌝ }
+    ensures { λ r. ⌜ Checked (now (image .entry)) (entries (now (batch .entry))) stamp (outcomeNo r) ⌝ }
+{
+    if batch.len() < format::ENTRY {
+        return model::Outcome::Accepted;
+    }
+    let outside = batch_entries::any_outside(image, batch);
+    if outside {
+        return model::Outcome::Refused(model::Refusal::InvalidHandle);
+    }
+    let good = field::is_good_stamp(stamp);
+    let infinite = batch_entries::any_infinite(batch);
+    let old = batch_entries::any_old(image, batch, stamp);
+    if !good {
+        return model::Outcome::Refused(model::Refusal::InvalidTimestamp);
+    }
+    if infinite {
+        return model::Outcome::Refused(model::Refusal::InvalidValue);
+    }
+    if old {
+        return model::Outcome::Refused(model::Refusal::OldSample);
+    }
+    model::Outcome::Accepted
+}
+
+// Records a batch, once opening's check has passed: its refusal, or the writes.
 pub fn batch_opened(image: &mut [u8], flags: u32, batch: &[u8], stamp: u64) -> flag_bits::Numbered
     requires { ⌜ openCheck (now image) ≡ 0 ⌝ }
     ensures { λ r. ⌜ BatchDone (lentAt (now (image .entry)) flags) (entries (now (batch .entry))) stamp (outcomeNo (r .outcome)) (lentAt (now (image .exit)) (r .flags)) ⌝ }
 {
-    if batch.len() < format::ENTRY {
+    let checked = check_batch(image, batch, stamp);
+    let model::Outcome::Accepted = checked else {
         return flag_bits::Numbered {
-            outcome: model::Outcome::Accepted,
+            outcome: checked,
             flags: flags,
         };
-    }
-    let outside = batch_entries::any_outside(image, batch);
-    if outside {
-        return flag_bits::Numbered {
-            outcome: model::Outcome::Refused(model::Refusal::InvalidHandle),
-            flags: flags,
-        };
-    }
-    let good = field::is_good_stamp(stamp);
-    let infinite = batch_entries::any_infinite(batch);
-    if !good {
-        return flag_bits::Numbered {
-            outcome: model::Outcome::Refused(model::Refusal::InvalidTimestamp),
-            flags: flags,
-        };
-    }
-    if infinite {
-        return flag_bits::Numbered {
-            outcome: model::Outcome::Refused(model::Refusal::InvalidValue),
-            flags: flags,
-        };
-    }
+    };
     let next = store_schemas(image, flags, batch, stamp);
     flag_bits::Numbered {
         outcome: model::Outcome::Accepted,

@@ -7,8 +7,8 @@ use lib.Dec.{ltb}
 use Rattle.model.specs.Bytes.{get}
 use Rattle.model.specs.Image.{schemas, rows, tiersOf}
 use Rattle.model.specs.Ring.{ColumnValue, isInfinite}
-use Rattle.model.specs.Lent.{Lent, tiers}
-use Rattle.model.specs.Record.{Entry, seriesOf, handleOk, entryAt, entriesFrom, everyEntry}
+use Rattle.model.specs.Lent.{Lent, row, ring, tiers, rowNo}
+use Rattle.model.specs.Record.{Entry, seriesOf, handleOk, takes, entryAt, entriesFrom, everyEntry}
 use Rattle.ring_write.specs.Entries.{entries-more, entries-none}
 
 -- the entry's schema and column are within the image's bounds
@@ -17,6 +17,10 @@ fits s e = ltb (e .schema) (schemas s) && ltb (e .column) (seriesOf (tiersOf (e 
 
 unfoldable pub finite : Entry → Bool
 finite e = not (isInfinite (e .value))
+
+-- the finest ring of the entry's schema takes the stamp t, by the image alone
+unfoldable pub taken : List ℕ → ℕ → Entry → Bool
+taken s t e = takes (record { image = s; flags = [] }) (e .schema) t
 
 unfoldable pub isSome : List ColumnValue → Bool
 isSome [] = false
@@ -30,6 +34,10 @@ fits-are l es = refl
 pub finites-are : (es : List Entry) → everyEntry (λ x. not (isInfinite (x .value))) es ≡ everyEntry finite es
 unfolding finite
 finites-are es = refl
+
+pub takens-are : (l : Lent) (t : ℕ) (es : List Entry) → everyEntry (λ x. takes l (x .schema) t) es ≡ everyEntry (taken (l .image) t) es
+unfolding taken takes ring row rowNo
+takens-are l t es = refl
 
 -- ---- entry i of c: the test goes on, or ends
 

@@ -35,7 +35,8 @@ unfoldable pub both : ℕ → ℕ → ℕ → Call
 both t a b = batchCall (record { schema = 0; column = 1; value = a } ∷ record { schema = 0; column = 0; value = b } ∷ []) t
 
 -- two runs after the first tick of the first coarsest interval, one after the last of the second, as far behind them as it may be; the run after the third
--- tick of the third, in the middle of a window of 20 and of one of 40, is left to Situation. Refused records, a query and an empty batch stand between.
+-- tick of the third, in the middle of a window of 20 and of one of 40, is left to Situation. Refused records, a query and an empty batch stand between; one of those
+-- records is old (request 2026-05): 40, whose slot holds 120. Taken as a sample it would break stamp order.
 -- Openings, handed flags that are all true, all false or none: before the first sample; after the first run and before the second; within the tick 80; after the
 -- third run. At the tick 80 the finest ring has just gone round, and its slot 1 has no stamp yet: by document 01's own rule the opening would set no flag, the third
 -- run would not see 50 to 70, and the coarsest tier's first point of column 1 would be 1
@@ -45,17 +46,17 @@ calls =
     ∷ recordCall 0 0 (num 3) 50 ∷ recordCall 0 1 (num 3) 0 ∷ recordCall 0 1 (minus 3) 50
     ∷ both 60 (num 7) (num 7) ∷ both 70 (num 2) (minus 0) ∷ queryCall 0 0 0 0 9 ∷ batchCall [] 0
     ∷ recordCall 0 0 (num 2) 80 ∷ openCall (replicate 32 false) ∷ recordCall 0 1 (num 1) 80 ∷ both 90 (num 2) (num 5) ∷ both 100 (num 1) (num 2) ∷ recordCall 0 1 infinity 110 ∷ both 110 (num 4) (num 2)
-    ∷ consolidateCall ∷ openCall [] ∷ both 120 (num 3) (num 1) ∷ both 130 (num 6) (num 2) ∷ both 140 (num 5) (num 9) ∷ []
+    ∷ consolidateCall ∷ openCall [] ∷ both 120 (num 3) (num 1) ∷ recordCall 0 0 (num 9) 40 ∷ both 130 (num 6) (num 2) ∷ both 140 (num 5) (num 9) ∷ []
 
--- column c at tier k; a refused record, an opening and a query stand between the run and the query. The opening finds tier 1's cursor in the last slot, so it turns
--- that flag from true to false; no point is lost
+-- column c at tier k; a refused record, an old batch, an opening and a query stand between the run and the query. The opening finds tier 1's cursor in the last
+-- slot, so it turns that flag from true to false; no point is lost
 unfoldable pub story : ℕ → ℕ → Situation
 story c k = record {
   plan = plan tiers;
   buf = replicate 804 9;
   flags = replicate 32 true;
   before = calls;
-  between = recordCall 0 9 0 0 ∷ openCall (replicate 32 false) ∷ autoCall 0 1 0 9 ∷ [];
+  between = recordCall 0 9 0 0 ∷ both 60 (num 9) (num 9) ∷ openCall (replicate 32 false) ∷ autoCall 0 1 0 9 ∷ [];
   column = c;
   tier = k;
 }

@@ -6,7 +6,7 @@ use mathlib.Core.List.{List, [], _∷_, _++_, map}
 use lib.ListN.{take, replicate}
 use Rattle.model.specs.declared.Row.{Row}
 use Rattle.model.specs.declared.Refusal.the-variants.{BadImage, NoTiers, InvalidMaxSeries, InvalidTierConfig, TooManySlots, TiersNotOrdered, ConsolidationOnHighestTier, LayoutTooLarge}
-use Rattle.model.specs.declared.Refusal.the-variants.{ShortBuffer, CorruptedSlab, InvalidHandle, InvalidValue, InvalidTimestamp, InvalidTier, InvalidTimeRange, NoConsolidationFunction, OffPanel}
+use Rattle.model.specs.declared.Refusal.the-variants.{ShortBuffer, CorruptedSlab, InvalidHandle, InvalidValue, InvalidTimestamp, InvalidTier, InvalidTimeRange, NoConsolidationFunction, OffPanel, OldSample}
 use Rattle.model.specs.declared.Outcome.the-variants.{Accepted, Refused}
 use Rattle.model.specs.declared.ConsolidationFn.the-variants.{Average, Min, Max, Last, Sum, Count}
 use Rattle.model.specs.declared.TierFn.the-variants.{None, Some}
@@ -27,8 +27,8 @@ bytes-are = (refl, refl, refl, refl, refl, refl, refl)
 -- the refusals' numbers, and the functions by theirs
 pub numbers-are :
     map numberOf (BadImage ∷ NoTiers ∷ InvalidMaxSeries ∷ InvalidTierConfig ∷ TooManySlots ∷ TiersNotOrdered ∷ ConsolidationOnHighestTier ∷ LayoutTooLarge ∷ ShortBuffer
-    ∷ CorruptedSlab ∷ InvalidHandle ∷ InvalidValue ∷ InvalidTimestamp ∷ InvalidTier ∷ InvalidTimeRange ∷ NoConsolidationFunction ∷ OffPanel ∷ [])
-    ≡ 1 ∷ 2 ∷ 3 ∷ 4 ∷ 5 ∷ 6 ∷ 7 ∷ 8 ∷ 9 ∷ 10 ∷ 11 ∷ 12 ∷ 13 ∷ 14 ∷ 15 ∷ 16 ∷ 17 ∷ []
+    ∷ CorruptedSlab ∷ InvalidHandle ∷ InvalidValue ∷ InvalidTimestamp ∷ InvalidTier ∷ InvalidTimeRange ∷ NoConsolidationFunction ∷ OffPanel ∷ OldSample ∷ [])
+    ≡ 1 ∷ 2 ∷ 3 ∷ 4 ∷ 5 ∷ 6 ∷ 7 ∷ 8 ∷ 9 ∷ 10 ∷ 11 ∷ 12 ∷ 13 ∷ 14 ∷ 15 ∷ 16 ∷ 17 ∷ 18 ∷ []
 numbers-are = refl
 
 pub outcomes-are : outcomeNo Accepted ∷ outcomeNo (Refused ShortBuffer) ∷ [] ≡ 0 ∷ 9 ∷ []

@@ -4,5 +4,6 @@ pub mod Openings
 pub mod Recordings
 pub mod Readings
 pub mod Runs
+pub mod Supersede
 pub mod Windows
 pub mod Figures

@@ -19,7 +19,7 @@ use Rattle.model.specs.Query.{QueryReply, query, answered, repliedBy}
 use Rattle.model.specs.Figure.{endOfTime, reading, lastOn, shownPoint, panelOn, panel, servedPoint, serviceOn, service, panelReply, serviceReply}
 use Rattle.ring.specs.Parts.{ringOf}
 use Rattle.lookup.specs.Parts.{SlabAt}
-use Rattle.tiers.proofs.Laws.{part-is}
+use Rattle.lookup.proofs.Laws.{part-is}
 use Rattle.tiers.specs.Reached.{lentBy, rowRing, row-ring}
 use Rattle.query.specs.Sought.{SoughtAt}
 use Rattle.figure_theory.specs.Back.{ringLast}

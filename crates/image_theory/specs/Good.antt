@@ -160,7 +160,7 @@ module _ (t s : List ℕ) (k : SameRows t s) where
   unfolding schemas
   schemas-kept = k .header-is 4 8 (omega arith)
 
-  like : Like t s
+  pub like : Like t s
   unfolding setMark
   like = record {
     count-is = count-kept;

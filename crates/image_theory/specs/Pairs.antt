@@ -16,10 +16,10 @@ use Rattle.model.specs.declared.WindowAnswer.the-variants.{Empty, Number, Nothi
 use Rattle.model.specs.Words.{functionNo}
 use Rattle.model.specs.Bytes.{get}
 use Rattle.model.specs.Image.{rowCount, rowSlots, sound}
-use Rattle.model.specs.Ring.{Ring, ColumnValue, slots, cursor, stamp, endOf, newest}
+use Rattle.model.specs.Ring.{Ring, ColumnValue, slots, cursor, stamp, isOld, endOf, newest}
 use Rattle.model.specs.Window.{Job, windowAnswer}
 use Rattle.model.specs.Lent.{Lent, row, ring, withRing}
-use Rattle.model.specs.Consolidate.{Filled, writeOn, writeBits, writeAnswer, unlessRefused, fillWindow, fill, Run, refuseRun, stampsBelow, orZero, windows, jobOf, filled, withMark, closePair, pairWith, pairBy, pair, pairIf, pairs}
+use Rattle.model.specs.Consolidate.{Filled, writeUnless, writeOn, writeBits, writeAnswer, unlessRefused, fillWindow, fill, Run, refuseRun, stampsBelow, orZero, windows, jobOf, filled, withMark, closePair, pairWith, pairBy, pair, pairIf, pairs}
 use Rattle.laws.specs.Tests.{and-left, and-right, lt-is}
 use Rattle.ring_theory.specs.Sound.{Sound, kept-by-write, sound-write}
 use Rattle.image_theory.specs.Checks.{sound-keeps}
@@ -34,14 +34,20 @@ pub record Grown (n m d : ℕ) (r r' : Ring) : Type 0 where
   pub header-is : (w p : ℕ) → p + w ≤ 32 → get w (r' .slab) p ≡ get w (r .slab) p
 
 module _ (n m d : ℕ) (r : Ring) where
-  pub grown-on : (k : ℕ) (f : Filled) (w c v : ℕ) → Grown n m d r (f .ring) → Grown n m d r (writeOn k f w c v .ring)
-  unfolding writeOn
-  grown-on zero f w c v h =
+  -- written, or passed over
+  grown-unless-old : (b : Bool) (f : Filled) (w c v : ℕ) → Grown n m d r (f .ring) → Grown n m d r (writeUnless b f w c v .ring)
+  unfolding writeUnless
+  grown-unless-old true f w c v h = h
+  grown-unless-old false f w c v h =
       let es : List ColumnValue = record { column = c; value = v } ∷ [] in
       record {
         sound-is = sound-write (f .ring) es w n m d (h .sound-is);
         header-is = λ x p l. kept-by-write (f .ring) es w n m d (h .sound-is) .header x p l ∙ h .header-is x p l;
       }
+
+  pub grown-on : (k : ℕ) (f : Filled) (w c v : ℕ) → Grown n m d r (f .ring) → Grown n m d r (writeOn k f w c v .ring)
+  unfolding writeOn
+  grown-on zero f w c v h = grown-unless-old (isOld (f .ring .slab) w) f w c v h
   grown-on (suc k) f w c v h = h
 
   pub grown-answer : (a : WindowAnswer) (f : Filled) (w c : ℕ) → Grown n m d r (f .ring) → Grown n m d r (writeAnswer a f w c .ring)

@@ -1,4 +1,4 @@
--- What a passed check tells of the places that the code reads: a row within the slice, its slab with its sizes; and the search for a schema's first row, one
+-- What a passed check tells of the places that the code reads: a row within the slice, its slab with its sizes, as a part of the image; and the search for a schema's first row, one
 -- turn at a time. Assumes nothing.
 use Prim.Native.Nat.{ℕ, zero, suc, _+_, _-_, _*_, _≤_, _<_}
 use native.Mathlib.Nat.{add-zero, zero-add, sub-zero}
@@ -9,17 +9,18 @@ use mathlib.Core.Logic.{_≢_}
 use mathlib.Core.Bool.{Bool, true, false, _&&_, cond}
 use mathlib.Core.List.{List}
 use lib.Dec.{ltb, eqb}
-use lib.ListN.{length}
+use lib.ListN.{length, take, drop}
 use borrow.Author.Tests.{eq-eqb, ne-eqb}
 use Rattle.model.specs.declared.Row.{Row}
-use Rattle.model.specs.Bytes.{get}
+use Rattle.model.specs.Bytes.{get, part}
 use Rattle.model.specs.Image.{schemas, rowCount, rowPlace, rowAt, rowsFrom, rows, rowSlots, tiersOf, slabOf, openCheck}
 use Rattle.model.specs.Ring.{slots}
 use Rattle.model.specs.Lent.{firstRow}
 use Rattle.model.specs.Record.{seriesOf}
 use Rattle.laws.specs.Tests.{yes-lt, no-lt, lt-is, eq-is}
 use Rattle.laws.specs.Bytes.{get-part}
-use Rattle.ring_theory.specs.Sound.{header-in}
+use Rattle.ring_theory.specs.Sound.{Sound, header-in}
+use Rattle.ring.specs.Parts.{Sized, sized}
 use Rattle.image_theory.specs.Good.{Good, good-open, inside-slice, length-slab, slab-sound, tier-of}
 use Rattle.lookup.specs.Parts.{SlabAt, finestOf}
 use Rattle.lookup.specs.Handle.{first-there, series-there}
@@ -77,6 +78,21 @@ module _ (s : List ℕ) (h : openCheck s ≡ 0) where
           few-rows = omega (arith, few-rows);
           sound = rw (es, em, ed) a;
         }
+
+-- the slab as a part of the image
+module _ {s : List ℕ} {i from to n m d : ℕ} (h : SlabAt s i from to n m d) where
+  pub starts-before : from ≤ to
+  starts-before = omega (arith, h .to-is)
+
+  pub part-is : take (to - from) (drop from s) ≡ slabOf s (rowAt s i)
+  unfolding slabOf part
+  part-is = let e : to - from ≡ rowAt s i .len = omega (arith, h .to-is) in rw (e, h .from-is)
+
+  pub part-sound : Sound (take (to - from) (drop from s)) n m d
+  part-sound = rw part-is (h .sound)
+
+  pub part-sized : Sized (take (to - from) (drop from s)) n m
+  part-sized = sized part-sound
 
 -- ---- the first row of a schema
 

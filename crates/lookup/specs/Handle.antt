@@ -1,14 +1,15 @@
 -- What the row of a handle's finest tier says: whether the handle is within bounds, and, on an image that passes opening's check, that the row is there and has
--- the column. Assumes nothing.
+-- the column; whether its ring takes a stamp. Assumes nothing.
 use Prim.Native.Nat.{ℕ, _<_}
 use native.Mathlib.Nat.{add-zero}
 use mathlib.Core.Path.{_≡_, refl}
-use mathlib.Core.Bool.{Bool, true, false, _&&_, cond}
+use mathlib.Core.Bool.{Bool, true, false, not, _&&_, cond}
 use mathlib.Core.List.{List}
 use lib.Dec.{ltb}
-use Rattle.model.specs.Image.{schemas, rowCount, rowAt, rows, tiersOf, openCheck}
-use Rattle.model.specs.Lent.{Lent, tiers, firstRow}
-use Rattle.model.specs.Record.{seriesOf, handleOk}
+use Rattle.model.specs.Image.{schemas, rowCount, rowAt, rows, tiersOf, slabOf, openCheck}
+use Rattle.model.specs.Ring.{isOld}
+use Rattle.model.specs.Lent.{Lent, row, ring, tiers, firstRow, rowNo}
+use Rattle.model.specs.Record.{seriesOf, handleOk, takes}
 use Rattle.laws.specs.Tests.{lt-is, and-left, and-right}
 use Rattle.image_theory.specs.Good.{good-open}
 use Rattle.image_theory.specs.Tiers.{TierRow, tier-row, some-tier}
@@ -56,3 +57,8 @@ module _ (l : Lent) (k c : ℕ) where
       let a = handle-at e in
       let b = handle-in (a .0) in
       (rw (a .1) (first-there (l .image) h k (b .0)), rw (a .1) (rw (series-there (l .image) h k (b .0)) at (b .1)))
+
+-- with the schema's first row i, it is the slab's bytes that take a stamp, whatever the flags
+pub takes-at : (l : Lent) (k t : ℕ) {i : ℕ} → i ≡ firstRow k (rows (l .image)) → takes l k t ≡ not (isOld (slabOf (l .image) (rowAt (l .image) i)) t)
+unfolding takes ring row rowNo
+takes-at l k t e = rw (add-zero, ← e)

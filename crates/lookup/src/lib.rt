@@ -1,11 +1,12 @@
 // What a call finds in the image and flags that it is lent, once opening's check has passed: the row of a schema's finest tier (11 InvalidHandle), a row's
-// slab with its sizes, a row's flag. Record, query and consolidation go from a handle to a slab by these.
+// slab with its sizes, whether a stamp is old in its ring (18 OldSample), a row's flag. Record, query and consolidation go from a handle to a slab by these.
 ghost use mathlib.Core.Path.{_≡_};
 ghost use mathlib.Core.Bool.{false};
 ghost use Prim.Native.Nat.{_+_, _<_, _≤_};
 ghost use lib.ListN.{getD};
 ghost use Rattle.model.specs.Bytes.{get};
-ghost use Rattle.model.specs.Image.{rowCount, rowPlace, rows, openCheck};
+ghost use Rattle.model.specs.Image.{rowCount, rowPlace, rowAt, rows, slabOf, openCheck};
+ghost use Rattle.model.specs.Ring.{isOld};
 ghost use Rattle.model.specs.Lent.{firstRow};
 ghost use Rattle.lookup.specs.Parts.{SlabAt, finestOf, withFlag};
 
@@ -61,6 +62,19 @@ pub fn slab_at(image: &[u8], row: usize) -> Slab
         to: from + len,
         sizes: sizes,
     }
+}
+
+// Whether a stamp is below the one that its slot in a row's ring holds.
+pub fn is_old(image: &[u8], row: usize, stamp: u64) -> bool
+    requires { ⌜ openCheck (now image) ≡ 0 ⌝ }
+    requires { ⌜ row < rowCount (now image) ⌝ }
+    ensures { λ r. ⌜ r ≡ isOld (slabOf (now (image .entry)) (rowAt (now (image .entry)) row)) stamp ⌝ }
+{
+    let slab = slab_at(image, row);
+    let from = slab.from;
+    let to = slab.to;
+    let z = slab.sizes;
+    ring::is_old(&image[from..to], z, stamp)
 }
 
 // The first row of a schema; the number of rows where none has it.

@@ -1,5 +1,5 @@
--- Consolidation (document 01, "Consolidate"; where a reading starts: request 2026-01): the windows of a pair, the writes to its destination, its mark; the run
--- over all pairs. Assumes nothing.
+-- Consolidation (document 01, "Consolidate"; where a reading starts: request 2026-01; which writes are passed over: request 2026-05): the windows of a pair, the
+-- writes to its destination, its mark; the run over all pairs. Assumes nothing.
 use Prim.Native.Nat.{ℕ, zero, suc, _+_, _-_, _^_}
 use mathlib.Core.Bool.{Bool, true, false, not, _&&_, cond}
 use mathlib.Core.List.{List, [], _∷_}
@@ -16,7 +16,7 @@ use Rattle.model.specs.Words.{functionNo}
 use Rattle.model.specs.Bytes.{put64, put}
 use Rattle.model.specs.Layout.{freshValue}
 use Rattle.model.specs.Image.{rowCount, markAt, unless, first, openCheck}
-use Rattle.model.specs.Ring.{Ring, write, slots, stamp, order, oldest, newest, isInfinite}
+use Rattle.model.specs.Ring.{Ring, write, isOld, slots, stamp, order, oldest, newest, isInfinite}
 use Rattle.model.specs.Window.{Job, windowOf, windowAnswer}
 use Rattle.model.specs.Lent.{Lent, row, ring, withRing}
 use Rattle.model.specs.Record.{stampOk}
@@ -69,8 +69,13 @@ pub record Filled : Type 0 where
 unfoldable pub writeCheck : ℕ → ℕ → ℕ
 writeCheck v t = first (unless (not (isInfinite v)) 12 ∷ unless (stampOk t) 13 ∷ [])
 
+-- an old write is passed over: nothing is stored, counted or refused
+unfoldable pub writeUnless : Bool → Filled → ℕ → ℕ → ℕ → Filled
+writeUnless true f w c v = f
+writeUnless false f w c v = record { ring = write (f .ring) (record { column = c; value = v } ∷ []) w; writes = suc (f .writes); refusal = 0 }
+
 unfoldable pub writeOn : ℕ → Filled → ℕ → ℕ → ℕ → Filled
-writeOn zero f w c v = record { ring = write (f .ring) (record { column = c; value = v } ∷ []) w; writes = suc (f .writes); refusal = 0 }
+writeOn zero f w c v = writeUnless (isOld (f .ring .slab) w) f w c v
 writeOn (suc n) f w c v = record { ring = f .ring; writes = f .writes; refusal = suc n }
 
 unfoldable pub writeBits : Filled → ℕ → ℕ → ℕ → Filled
@@ -188,6 +193,10 @@ unfoldable pub run : Lent → Run
 run l = runOn (openCheck (l .image)) l
 
 -- names every definition of this module, for a proof by computation: `unfolding Consolidate-defs`
+unfoldable Windows-defs : Unit {0}
+unfolding lower lowerIf isNext leastFrom nextWindow windowsFrom windows
+Windows-defs = tt
+
 unfoldable pub Consolidate-defs : Unit {0}
-unfolding lower lowerIf isNext leastFrom nextWindow windowsFrom windows writeCheck writeOn writeBits writeAnswer unlessRefused fillWindow fill refuseRun stampsBelow orZero startOf endAfter jobOf filled withMark closePair pairWith pairBy pair pairIf pairs runOn run
+unfolding Windows-defs writeCheck writeUnless writeOn writeBits writeAnswer unlessRefused fillWindow fill refuseRun stampsBelow orZero startOf endAfter jobOf filled withMark closePair pairWith pairBy pair pairIf pairs runOn run
 Consolidate-defs = tt

@@ -1,5 +1,5 @@
 -- One ring, a slab with its wrap flag: the fields, a write, the reading order, the ends (document 01, "Record", "Query" and "The slab's bytes"), the flag at
--- opening (request 2026-02). Assumes nothing.
+-- opening (request 2026-02), which stamps are old (request 2026-05). Assumes nothing.
 use Prim.Native.Nat.{ℕ, zero, suc, _+_, _-_, _*_, _/_, _%_, _^_}
 use mathlib.Core.Bool.{Bool, true, false, not, _&&_, _||_, cond}
 use mathlib.Core.List.{List, [], _∷_}
@@ -58,6 +58,10 @@ pub record ColumnValue : Type 0 where
 
 unfoldable pub slotOf : List ℕ → ℕ → ℕ
 slotOf s t = t / interval s % slots s
+
+-- t is below the stamp that its slot holds (request 2026-05): such a write is refused by record and record_batch, and passed over by consolidation
+unfoldable pub isOld : List ℕ → ℕ → Bool
+isOld s t = ltb t (stamp s (slotOf s t))
 
 -- the values in slot i of their columns, in order; other columns' cells stay
 unfoldable pub putCells : List ℕ → ℕ → List ColumnValue → List ℕ
@@ -144,5 +148,5 @@ wrapFlag s = anyStamp s (suc (cursor s)) (slots s - suc (cursor s))
 
 -- names every definition of this module, for a proof by computation: `unfolding Ring-defs`
 unfoldable pub Ring-defs : Unit {0}
-unfolding slots series interval cursor stampAt cellAt stamp cell isInfinite isNaN slotOf putCells moveCursor flagAfter store cellsFor write walk isEmpty firstPlace order endOf newest orStamp firstStamp oldest anyStamp wrapFlag
+unfolding slots series interval cursor stampAt cellAt stamp cell isInfinite isNaN slotOf isOld putCells moveCursor flagAfter store cellsFor write walk isEmpty firstPlace order endOf newest orStamp firstStamp oldest anyStamp wrapFlag
 Ring-defs = tt

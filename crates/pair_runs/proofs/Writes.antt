@@ -3,6 +3,7 @@ use Prim.Native.Nat.{ℕ, zero, suc, _+_, _*_, _≤_}
 use native.Mathlib.Nat.{mul-suc, mul-le-mul-left}
 use native.Mathlib.Omega.{arith}
 use mathlib.Core.Path.{_≡_, ap}
+use mathlib.Core.Bool.{Bool, true, false}
 use mathlib.Core.List.{List, [], _∷_}
 use lib.ListN.{length}
 use lib.Ieee.{binary64, toBits}
@@ -11,9 +12,9 @@ use Rattle.model.specs.declared.End.the-variants.{At, Missing}
 use Rattle.model.specs.declared.WindowAnswer.{WindowAnswer}
 use Rattle.model.specs.declared.WindowAnswer.the-variants.{Empty, Number, NothingFinite}
 use Rattle.model.specs.Layout.{freshValue}
-use Rattle.model.specs.Ring.{slots}
+use Rattle.model.specs.Ring.{slots, isOld}
 use Rattle.model.specs.Window.{Job, windowAnswer}
-use Rattle.model.specs.Consolidate.{Filled, nextWindow, windowsFrom, windows, writeCheck, writeOn, writeBits, writeAnswer, unlessRefused, fillWindow, fill}
+use Rattle.model.specs.Consolidate.{Filled, nextWindow, windowsFrom, windows, writeCheck, writeUnless, writeOn, writeBits, writeAnswer, unlessRefused, fillWindow, fill}
 use Rattle.pair_fill.specs.declared.Pair.{Pair}
 use Rattle.pair_fill.specs.Parts.{Lies, pairJob}
 
@@ -22,9 +23,15 @@ record Few (a b j : ℕ) : Type 0 where
   no-less : a ≤ b
   no-more : b ≤ a + j
 
+-- written, or passed over
+unless-old-few : (b : Bool) (f : Filled) (w c v : ℕ) → Few (f .writes) (writeUnless b f w c v .writes) 1
+unfolding writeUnless
+unless-old-few true f w c v = record { no-less = omega arith; no-more = omega arith }
+unless-old-few false f w c v = record { no-less = omega arith; no-more = omega arith }
+
 on-few : (n : ℕ) (f : Filled) (w c v : ℕ) → Few (f .writes) (writeOn n f w c v .writes) 1
 unfolding writeOn
-on-few zero f w c v = record { no-less = omega arith; no-more = omega arith }
+on-few zero f w c v = unless-old-few (isOld (f .ring .slab) w) f w c v
 on-few (suc n) f w c v = record { no-less = omega arith; no-more = omega arith }
 
 answer-few : (x : WindowAnswer) (f : Filled) (w c : ℕ) → Few (f .writes) (writeAnswer x f w c .writes) 1

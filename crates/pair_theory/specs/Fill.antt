@@ -17,13 +17,13 @@ use Rattle.model.specs.Image.{first, unless}
 use Rattle.model.specs.Record.{stampOk}
 use Rattle.model.specs.Ring.{Ring, ColumnValue, cell, write, isInfinite}
 use Rattle.model.specs.Window.{Job, windowAnswer}
-use Rattle.model.specs.Consolidate.{Filled, writeCheck, writeOn, writeBits, writeAnswer, unlessRefused, fillWindow, fill}
+use Rattle.model.specs.Consolidate.{Filled, writeCheck, writeUnless, writeOn, writeBits, writeAnswer, unlessRefused, fillWindow, fill}
 use Rattle.laws.specs.Tests.{yes-lt}
 use Rattle.ring_theory.specs.Write.{Wrote, setCell, setCells, set-other}
 use Rattle.ring_theory.specs.Sound.{some-slots}
 use Rattle.ring_theory.specs.Column.{Col, keeps-agree, col-same, col-put}
 use Rattle.ring_theory.specs.Hold.{State}
-use Rattle.ring_theory.specs.Step.{at-number, step-at}
+use Rattle.ring_theory.specs.Step.{at-number, step-at, taken-at}
 use Rattle.pair_theory.specs.Windows.{wins}
 
 -- ---- used columns
@@ -147,7 +147,7 @@ module _ (u : ℕ → Bool) (Y Y' : ℕ → ℕ → ℕ) (B : Ring) (n m d a e k
         (empty : (x : ℕ) → x < m → u x ≡ false → windowAnswer q ((a + k) * d) x ≡ Empty) where
       one-column : (c : ℕ) (f : Filled) → c < m → Filling c f
           → Filling (suc c) (unlessRefused (f .refusal) f (writeAnswer (windowAnswer q ((a + k) * d) c) f ((a + k) * d) c))
-      unfolding unlessRefused writeAnswer writeBits writeOn writeCheck stampOk first unless
+      unfolding unlessRefused writeAnswer writeBits writeOn writeUnless writeCheck stampOk first unless
       one-column c f hc t =
           subst (λ (z : ℕ). Filling (suc c) (unlessRefused z f (writeAnswer (windowAnswer q ((a + k) * d) c) f ((a + k) * d) c))) (sym (t .fine)) (go (u c) refl)
         where
@@ -155,7 +155,7 @@ module _ (u : ℕ → Bool) (Y Y' : ℕ → ℕ → ℕ) (B : Ring) (n m d a e k
           go true h =
               let g = given c hc h in
               subst (Filling (suc c)) (sym (g .written f ((a + k) * d) c))
-              (rw (g .finite, yes-lt 0 ((a + k) * d) pos, yes-lt ((a + k) * d) (2 ^ 63) top) (wrote-one c f (Y' c (a + k)) hc h refl (g .small) t))
+              (rw (g .finite, yes-lt 0 ((a + k) * d) pos, yes-lt ((a + k) * d) (2 ^ 63) top, taken-at k (t .now-from) (t .now-to) (t .state)) (wrote-one c f (Y' c (a + k)) hc h refl (g .small) t))
           go false h = rw (empty c hc h) (passed c f hc h t)
 
       one-window : (c j : ℕ) (f : Filled) → c + j ≡ m → Filling c f → Filling m (fillWindow q f ((a + k) * d) c j)

@@ -1,4 +1,4 @@
-// `record` by value: opening's order on every call, then 11, 12, 13, then the write to the schema's finest ring (Rust's `Store::record`). The row's slab is
+// `record` by value: opening's order on every call, then 11, 12, 13, 18, then the write to the schema's finest ring (Rust's `Store::record`). The row's slab is
 // lent on as a part of the image; other slabs' bytes, other rows' flags and the surplus stay. `ready` asks for no flag and `store`
 // for one, so that a caller may keep its flags as it likes.
 ghost use mathlib.Core.Path.{_≡_};
@@ -43,7 +43,7 @@ pub enum Target {
     Refused(model::Refusal),
 }
 
-// Where a value goes, once opening's check has passed: 11, 12, 13, or its row.
+// Where a value goes, once opening's check has passed: 11, 12, 13, 18, or its row.
 pub fn ready_opened(image: &[u8], handle: model::SeriesHandle, value: u64, stamp: u64) -> Target
     requires { ⌜ openCheck (now image) ≡ 0 ⌝ }
     ensures { λ r. ⌜ Readied (now (image .entry)) (handle .schema) (handle .column) value stamp r ⌝ }
@@ -54,11 +54,15 @@ pub fn ready_opened(image: &[u8], handle: model::SeriesHandle, value: u64, stamp
     };
     let infinite = field::is_infinite(value);
     let good = field::is_good_stamp(stamp);
+    let old = lookup::is_old(image, row, stamp);
     if infinite {
         return Target::Refused(model::Refusal::InvalidValue);
     }
     if !good {
         return Target::Refused(model::Refusal::InvalidTimestamp);
+    }
+    if old {
+        return Target::Refused(model::Refusal::OldSample);
     }
     Target::Row(row)
 }

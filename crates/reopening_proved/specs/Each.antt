@@ -19,11 +19,11 @@ use Rattle.model.specs.declared.WindowAnswer.the-variants.{Empty, Number, Nothi
 use Rattle.model.specs.Words.{functionNo}
 use Rattle.model.specs.Layout.{freshValue}
 use Rattle.model.specs.Image.{schemas, rowCount, rowAt, rowSlots, sound, createCheck, openCheck}
-use Rattle.model.specs.Ring.{Ring, ColumnValue, slots, cell, wrapFlag, write, newest}
+use Rattle.model.specs.Ring.{Ring, ColumnValue, slots, cell, isOld, wrapFlag, write, newest}
 use Rattle.model.specs.Window.{Job, windowAnswer}
 use Rattle.model.specs.Lent.{Lent, row, ring, withRing, rowNo, opening, creation}
 use Rattle.model.specs.Record.{Entry, writeTo, recordCheck, recordOn, batchCheck, entriesOf, writeSome, writeSchemas, batchOn}
-use Rattle.model.specs.Consolidate.{Filled, writeCheck, writeOn, writeBits, writeAnswer, unlessRefused, fillWindow, fill, Run, refuseRun, stampsBelow, orZero, windows, jobOf, filled}
+use Rattle.model.specs.Consolidate.{Filled, writeCheck, writeUnless, writeOn, writeBits, writeAnswer, unlessRefused, fillWindow, fill, Run, refuseRun, stampsBelow, orZero, windows, jobOf, filled}
 use Rattle.model.specs.Consolidate.{withMark, closePair, pairWith, pairBy, pair, pairIf, pairs, runOn, run}
 use Rattle.model.specs.Store.{Call, Deed, reads, records, recordsAll, runs, opens, deed, doing, finished, call, after}
 use Rattle.reopening.specs.Reopening.{History, created, left}
@@ -149,12 +149,16 @@ module _ (P : ℕ → ℕ → Ring → Type 0)
       is-sound : Sound (r .slab) n m d
       has : P n m r
 
+    on-unless : (b : Bool) (f : Filled) (w c v : ℕ) → 0 < w → w < 2 ^ 63 → Having (f .ring) → Having (writeUnless b f w c v .ring)
+    unfolding writeUnless
+    on-unless true f w c v pos low h = h
+    on-unless false f w c v pos low h =
+        let es : List ColumnValue = record { column = c; value = v } ∷ [] in
+        record { is-sound = sound-write (f .ring) es w n m d (h .is-sound); has = on-write n m d (f .ring) es w (h .is-sound) pos low (h .has) }
+
     on-check : (k : ℕ) (f : Filled) (w c v : ℕ) → writeCheck v w ≡ k → Having (f .ring) → Having (writeOn k f w c v .ring)
     unfolding writeOn
-    on-check zero f w c v e h =
-        let es : List ColumnValue = record { column = c; value = v } ∷ [] in
-        let z = write-zero v w e in
-        record { is-sound = sound-write (f .ring) es w n m d (h .is-sound); has = on-write n m d (f .ring) es w (h .is-sound) (z .0) (z .1) (h .has) }
+    on-check zero f w c v e h = let z = write-zero v w e in on-unless (isOld (f .ring .slab) w) f w c v (z .0) (z .1) h
     on-check (suc k) f w c v e h = h
 
     on-answer : (a : WindowAnswer) (f : Filled) (w c : ℕ) → Having (f .ring) → Having (writeAnswer a f w c .ring)

@@ -16,10 +16,10 @@ use Rattle.model.specs.declared.WindowAnswer.the-variants.{Empty, Number, Nothi
 use Rattle.model.specs.Words.{functionNo}
 use Rattle.model.specs.Layout.{freshValue}
 use Rattle.model.specs.Image.{rowCount, rowSlots}
-use Rattle.model.specs.Ring.{Ring, ColumnValue, slots, write, newest}
+use Rattle.model.specs.Ring.{Ring, ColumnValue, slots, isOld, write, newest}
 use Rattle.model.specs.Window.{Job, windowAnswer}
 use Rattle.model.specs.Lent.{Lent, row, ring, withRing}
-use Rattle.model.specs.Consolidate.{Filled, writeCheck, writeOn, writeBits, writeAnswer, unlessRefused, fillWindow, fill, Run, refuseRun, stampsBelow, orZero, startOf, endAfter, windows, jobOf, filled}
+use Rattle.model.specs.Consolidate.{Filled, writeCheck, writeUnless, writeOn, writeBits, writeAnswer, unlessRefused, fillWindow, fill, Run, refuseRun, stampsBelow, orZero, startOf, endAfter, windows, jobOf, filled}
 use Rattle.model.specs.Consolidate.{withMark, closePair, pairWith, pairBy, pair, pairIf, pairs}
 use Rattle.ring_theory.specs.Write.{write-is}
 use Rattle.image_theory.specs.Checks.{tiers-ok}
@@ -74,9 +74,16 @@ record Level (p p' : Filled) : Type 0 where
   writes-are : p' .writes ≡ p .writes
   refusal-is : p' .refusal ≡ p .refusal
 
+level-unless-old : (b : Bool) (p p' : Filled) (w c v : ℕ) → Level p p' → Level (writeUnless b p w c v) (writeUnless b p' w c v)
+unfolding writeUnless
+level-unless-old true p p' w c v h = h
+level-unless-old false p p' w c v h =
+    record { slab-is = write-slab (p .ring) (p' .ring) (record { column = c; value = v } ∷ []) w (h .slab-is); writes-are = ap suc (h .writes-are); refusal-is = refl }
+
 level-on : (k : ℕ) (p p' : Filled) (w c v : ℕ) → Level p p' → Level (writeOn k p w c v) (writeOn k p' w c v)
 unfolding writeOn
-level-on zero p p' w c v h = record { slab-is = write-slab (p .ring) (p' .ring) (record { column = c; value = v } ∷ []) w (h .slab-is); writes-are = ap suc (h .writes-are); refusal-is = refl }
+level-on zero p p' w c v h =
+    subst (λ (s : List ℕ). Level (writeUnless (isOld (p .ring .slab) w) p w c v) (writeUnless (isOld s w) p' w c v)) (sym (h .slab-is)) (level-unless-old (isOld (p .ring .slab) w) p p' w c v h)
 level-on (suc k) p p' w c v h = record { slab-is = h .slab-is; writes-are = h .writes-are; refusal-is = refl }
 
 level-answer : (a : WindowAnswer) (p p' : Filled) (w c : ℕ) → Level p p' → Level (writeAnswer a p w c) (writeAnswer a p' w c)

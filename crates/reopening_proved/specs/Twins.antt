@@ -5,8 +5,8 @@ use mathlib.Core.Path.{_≡_, refl, sym, ap, _∙_, subst}
 use mathlib.Core.List.{List, [], _∷_}
 use Rattle.model.specs.Image.{schemas, rowCount, openCheck}
 use Rattle.model.specs.Ring.{ColumnValue, write}
-use Rattle.model.specs.Lent.{Lent, ring, tiers, rowNo}
-use Rattle.model.specs.Record.{Entry, handleOk, writeTo, recordCheck, recordOn, batchCheck, entriesOf, writeSome, writeSchemas, batchOn}
+use Rattle.model.specs.Lent.{Lent, row, ring, tiers, rowNo}
+use Rattle.model.specs.Record.{Entry, handleOk, writeTo, takes, recordCheck, recordOn, batchCheck, entriesOf, writeSome, writeSchemas, batchOn}
 use Rattle.model.specs.Query.{queryCheck, autoCheck, queryOn, query, queryAuto}
 use Rattle.model.specs.Consolidate.{pairs, runOn, run}
 use Rattle.model.specs.Store.{Call, recordCall, batchCall, queryCall, autoCall, consolidateCall, openCall, readOr, Deed, reads, records, recordsAll, runs, opens, deed, doing, finished, call, after, shown}
@@ -71,7 +71,7 @@ module _ (l l' : Lent) (img : l' .image ≡ l .image) where
   some-image k (e ∷ es) t = write-image k (e ∷ es) t
 
   record-check : (k c v t : ℕ) → recordCheck l' k c v t ≡ recordCheck l k c v t
-  unfolding recordCheck handleOk tiers
+  unfolding recordCheck handleOk takes tiers rowNo ring row
   record-check k c v t = rw img
 
   record-image : (n k c v t : ℕ) → recordOn n l' k c v t .image ≡ recordOn n l k c v t .image
@@ -80,7 +80,7 @@ module _ (l l' : Lent) (img : l' .image ≡ l .image) where
   record-image (suc n) k c v t = img
 
   batch-check : (es : List Entry) (t : ℕ) → batchCheck l' es t ≡ batchCheck l es t
-  unfolding batchCheck handleOk tiers
+  unfolding batchCheck handleOk takes tiers rowNo ring row
   batch-check [] t = rw img
   batch-check (e ∷ es) t = rw img
 

@@ -1,9 +1,10 @@
-// The ring of one slab, read: where stamps and cells stand; the stamp, the cell and the cursor; the slot of a stamp and the next slot; the place where a
-// reading starts (Rust's ring.rs). A slab is lent as its own slice; n slots and m series are what its header says (`Sized`).
+// The ring of one slab, read: where stamps and cells stand; the stamp, the cell and the cursor; the slot of a stamp and the next slot; whether a stamp is
+// old; the place where a reading starts (Rust's ring.rs). A slab is lent as its own slice; n slots and m series are what its header says (`Sized`).
 ghost use mathlib.Core.Path.{_≡_};
 ghost use Prim.Native.Nat.{suc, _+_, _*_, _/_, _%_, _<_, _≤_, _^_};
 ghost use Rattle.model.specs.Layout.{slabLength, stampsAt, columnAt};
-ghost use Rattle.model.specs.Ring.{cursor, stamp, cell, firstPlace};
+ghost use Rattle.model.specs.Ring.{cursor, stamp, cell, isOld, firstPlace};
+ghost use Rattle.ring_theory.specs.Sound.{Sound};
 ghost use Rattle.ring.specs.Parts.{Sized, ringOf};
 
 // The sizes of a slab: its slots, its series, its interval.
@@ -75,6 +76,17 @@ pub fn slot_of(stamp: u64, interval: u64, n: usize) -> usize
     ensures { λ r. ⌜ (r ≡ stamp / interval % n) × (r < n) ⌝ }
 {
     (stamp / interval % (n as u64)) as usize
+}
+
+// Whether a stamp is below the one that its slot holds.
+pub fn is_old(slab: &[u8], z: Sizes, stamp: u64) -> bool
+    requires { ⌜ Sound (now slab) (z .slots) (z .series) (z .interval) ⌝ }
+    requires { ⌜ 0 < z .interval ⌝ }
+    ensures { λ r. ⌜ r ≡ isOld (now (slab .entry)) stamp ⌝ }
+{
+    let slot = slot_of(stamp, z.interval, z.slots);
+    let held = stamp_of(slab, z.slots, z.series, slot);
+    stamp < held
 }
 
 // Where a reading starts, and over how many slots it goes.

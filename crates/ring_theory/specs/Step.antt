@@ -1,17 +1,19 @@
 -- One write to a ring that took numbers without gaps: at the next number, or at the newest one again, as where several columns share a number or a window
 -- is rewritten. The ring then holds what Hold says, with one number more or as many as before. Assumes nothing.
-use Prim.Native.Nat.{ℕ, suc, _+_, _*_, _/_, _%_, _^_, _≤_, _<_}
-use native.Mathlib.Nat.{mul-div-cancel}
+use Prim.Native.Nat.{ℕ, suc, _+_, _-_, _*_, _/_, _%_, _^_, _≤_, _<_}
+use native.Mathlib.Nat.{mul-div-cancel, mul-le-mul-right, mod-lt, add-mod-right}
 use native.Mathlib.Omega.{arith}
-use native.Mathlib.Decide.{ℕ-discrete}
+use native.Mathlib.Decide.{ℕ-discrete, decLt}
 use mathlib.Core.Path.{_≡_, refl, sym, ap, _∙_, subst}
-use mathlib.Core.Bool.{_||_}
+use mathlib.Core.Bool.{false, _||_}
 use mathlib.Core.List.{List}
 use lib.Dec.{ltb}
-use Rattle.model.specs.Ring.{Ring, ColumnValue, cursor, stamp, write}
+use Rattle.model.specs.Ring.{Ring, ColumnValue, cursor, stamp, isOld, write}
+use Rattle.laws.specs.Tests.{no-lt}
+use Rattle.ring_theory.specs.Numbers.{mod-ne}
 use Rattle.ring_theory.specs.Write.{Fit, Wrote, flag-is}
 use Rattle.ring_theory.specs.Sound.{some-slots, slot-is, sound-write, wrote-sound}
-use Rattle.ring_theory.specs.Column.{keeps-put}
+use Rattle.ring_theory.specs.Column.{Keeps, keeps-put}
 use Rattle.ring_theory.specs.Hold.{Slab, Flag, State, newestSlot, flag-step}
 
 module _ (r : Ring) (es : List ColumnValue) (q : ℕ) {n m d : ℕ} (h : Slab (r .slab) n m d) where
@@ -56,3 +58,27 @@ module _ {r : Ring} (es : List ColumnValue) {n m d : ℕ} (f : Fit m es) where
   -- the number that the ring is at
   pub step-same : {a e : ℕ} → State r n m d a (suc e) → (a + e) * d < 2 ^ 63 → State (write r es ((a + e) * d)) n m d a (suc e)
   step-same {a} {e} h b = step-at e (omega arith) (omega arith) h b
+
+-- ---- such a write is never old: the slot has no stamp, one a lap behind, or this number's own
+
+-- the slot of number a + k, where the numbers from a on were taken up to it or with it
+kept-by : {C : ℕ → ℕ} {n a e : ℕ} (d k : ℕ) → 0 < n → k ≤ e → e ≤ suc k → Keeps 0 C n a e (λ (q : ℕ). q * d) → C ((a + k) % n) ≤ (a + k) * d
+kept-by {C} {n} {a} {e} d k z from to h = go (decLt k e) (decLt k n)
+  where
+    go : Dec (k < e) → Dec (k < n) → C ((a + k) % n) ≤ (a + k) * d
+    go (yes p) l = rw (h .has (a + k) (omega arith) (omega arith) (omega arith)) (omega arith)
+    go (no p) (yes l) = rw (h .none ((a + k) % n) (mod-lt (a + k) z) (λ q x y. mod-ne q (a + k) n (omega arith) (omega arith))) (omega arith)
+    go (no p) (no l) =
+        let q = a + k - n in
+        let e : a + k ≡ q + n = omega arith in
+        let m : (a + k) % n ≡ q % n = ap (λ (x : ℕ). x % n) e ∙ add-mod-right q n in
+        let s : q ≤ a + k = omega arith in
+        rw (m, h .has q (omega arith) (omega arith) (omega arith)) (mul-le-mul-right d s)
+
+pub taken-at : {r : Ring} {n m d a e : ℕ} (k : ℕ) → k ≤ e → e ≤ suc k → State r n m d a e → isOld (r .slab) ((a + k) * d) ≡ false
+unfolding isOld
+taken-at {r} {n} {m} {d} {a} {e} k from to h =
+    let s = h .slab-is in
+    let t = (a + k) * d in
+    rw (slot-is (s .sound) t ∙ ap (λ (x : ℕ). x % n) (mul-div-cancel (a + k) (s .long)))
+    (no-lt t (stamp (r .slab) ((a + k) % n)) (kept-by d k (some-slots (s .sound)) from to (h .stamps)))

@@ -1,4 +1,4 @@
--- The part of an image that a row names is its slab; which row is a schema's tier; the choice of a tier, one turn at a time. Assumes nothing.
+-- What is found in a row's ring; which row is a schema's tier; the choice of a tier, one turn at a time. Assumes nothing.
 use Prim.Native.Nat.{ℕ, zero, suc, _+_, _-_, _≤_, _<_}
 use native.Mathlib.Nat.{zero-add, add-zero, sub-zero}
 use native.Mathlib.Numerals.{add-one}
@@ -18,8 +18,9 @@ use Rattle.model.specs.Lent.{Lent, ring, row, rowNo, firstRow, tiers}
 use Rattle.model.specs.Query.{chooseFrom, choose, readerOn, answered, repliedBy}
 use borrow.Author.Tests.{ltb-false}
 use Rattle.laws.specs.Tests.{yes-eq, yes-lt, lt-is, eq-is}
-use Rattle.ring.specs.Parts.{Sized, sized, ringOf}
+use Rattle.ring.specs.Parts.{ringOf}
 use Rattle.lookup.specs.Parts.{SlabAt}
+use Rattle.lookup.proofs.Laws.{part-is}
 use Rattle.image_theory.specs.Good.{good-open}
 use Rattle.image_theory.specs.Tiers.{schema-le, tier-row}
 use Rattle.flag_bits.specs.Bits.{bits}
@@ -30,23 +31,13 @@ use Rattle.tiers.specs.Reached.{row-ring, Reached, foundBy, AnswerIs, fl
 -- ---- a row's slab
 
 module _ {s : List ℕ} {i from to n m d : ℕ} (h : SlabAt s i from to n m d) where
-  pub starts-before : from ≤ to
-  starts-before = omega (arith, h .to-is)
-
-  pub part-is : take (to - from) (drop from s) ≡ slabOf s (rowAt s i)
-  unfolding slabOf part
-  part-is = let e : to - from ≡ rowAt s i .len = omega (arith, h .to-is) in rw (e, h .from-is)
-
-  pub part-sized : Sized (take (to - from) (drop from s)) n m
-  part-sized = rw part-is (sized (h .sound))
-
   -- what is found in its ring
   pub reached : (w : Bool) {o e : End} {p : Place} → o ≡ oldest (ringOf (take (to - from) (drop from s)) w) → e ≡ newest (ringOf (take (to - from) (drop from s)) w)
       → p ≡ firstPlace (ringOf (take (to - from) (drop from s)) w) → Reached s i w (record { from = from; oldest = o; slot = p .slot; newest = e; to = to; left = p .left })
   reached w o-is e-is p-is = record {
-    oldest-is = o-is ∙ rw part-is;
-    newest-is = e-is ∙ rw part-is;
-    place-is = p-is ∙ rw part-is;
+    oldest-is = o-is ∙ rw (part-is h);
+    newest-is = e-is ∙ rw (part-is h);
+    place-is = p-is ∙ rw (part-is h);
     from-is = h .from-is;
     to-is = h .to-is;
   }

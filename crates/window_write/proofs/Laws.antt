@@ -8,9 +8,9 @@ use Rattle.model.specs.declared.WindowAnswer.{WindowAnswer}
 use Rattle.model.specs.declared.WindowAnswer.the-variants.{Empty, Number, NothingFinite}
 use Rattle.model.specs.Image.{first, unless}
 use Rattle.model.specs.Layout.{freshValue}
-use Rattle.model.specs.Ring.{Ring, isInfinite, write}
+use Rattle.model.specs.Ring.{Ring, isInfinite, isOld, write}
 use Rattle.model.specs.Record.{stampOk}
-use Rattle.model.specs.Consolidate.{Filled, writeCheck, writeOn, writeBits, writeAnswer}
+use Rattle.model.specs.Consolidate.{Filled, writeCheck, writeUnless, writeOn, writeBits, writeAnswer}
 use Rattle.ring.specs.Parts.{one}
 
 module _ (f : Filled) (w c v : ℕ) where
@@ -22,10 +22,14 @@ module _ (f : Filled) (w c v : ℕ) where
   unfolding writeBits writeCheck writeOn first unless
   refused-stamp h k = rw (h, k)
 
-  pub written : {r : Ring} → isInfinite v ≡ false → stampOk w ≡ true → r ≡ write (f .ring) (one c v) w
-      → record { ring = r; writes = f .writes + 1; refusal = 0 } ≡ writeBits f w c v
-  unfolding writeBits writeCheck writeOn first unless
-  written h k e = rw (h, k, e, add-one (f .writes))
+  module _ (h : isInfinite v ≡ false) (k : stampOk w ≡ true) where
+    pub passed-over : isOld (f .ring .slab) w ≡ true → f ≡ writeBits f w c v
+    unfolding writeBits writeCheck writeUnless writeOn first unless
+    passed-over o = rw (h, k, o)
+
+    pub written : {r : Ring} → isOld (f .ring .slab) w ≡ false → r ≡ write (f .ring) (one c v) w → record { ring = r; writes = f .writes + 1; refusal = 0 } ≡ writeBits f w c v
+    unfolding writeBits writeCheck writeUnless writeOn first unless
+    written o e = rw (h, k, o, e, add-one (f .writes))
 
 module _ (f : Filled) (w c : ℕ) {x : WindowAnswer} where
   pub wrote-nothing : x ≡ Empty → f ≡ writeAnswer x f w c

@@ -1,5 +1,5 @@
 // A window's answer written to the destination: no value writes nothing, a number writes its pattern, NaN because nothing finite remained writes the one NaN
-// that document 01 names. A write tests 12, then 13; a refusal leaves the slab and ends the filling.
+// that document 01 names. A write tests 12, then 13; a refusal leaves the slab and ends the filling. A write that is old is passed over: slab and filling stay as they are.
 ghost use mathlib.Core.Path.{_≡_};
 ghost use Prim.Native.Nat.{_+_, _≤_};
 ghost use Rattle.model.specs.Consolidate.{writeBits, writeAnswer};
@@ -27,28 +27,30 @@ fn write_bits(
     ensures { λ r. ⌜ filledOf (now (slab .exit)) r ≡ writeBits (filledOf (now (slab .entry)) filling) window column bits ⌝ }
     ensures { λ r. ⌜ Sound (now (slab .exit)) (z .slots) (z .series) (z .interval) × (r .writes ≤ filling .writes + 1) ⌝ }
 {
-    let wrapped = filling.wrapped;
-    let writes = filling.writes;
     let infinite = field::is_infinite(bits);
+    let good = field::is_good_stamp(window);
+    let old = ring::is_old(slab, z, window);
     if infinite {
         return Filling {
-            wrapped: wrapped,
-            writes: writes,
+            wrapped: filling.wrapped,
+            writes: filling.writes,
             outcome: model::Outcome::Refused(model::Refusal::InvalidValue),
         };
     }
-    let good = field::is_good_stamp(window);
     if !good {
         return Filling {
-            wrapped: wrapped,
-            writes: writes,
+            wrapped: filling.wrapped,
+            writes: filling.writes,
             outcome: model::Outcome::Refused(model::Refusal::InvalidTimestamp),
         };
     }
-    let flag = ring_write::write(slab, z, column, bits, window, wrapped);
+    if old {
+        return filling;
+    }
+    let flag = ring_write::write(slab, z, column, bits, window, filling.wrapped);
     Filling {
         wrapped: flag,
-        writes: writes + 1,
+        writes: filling.writes + 1,
         outcome: model::Outcome::Accepted,
     }
 }

@@ -7,7 +7,8 @@ use Rattle.model.specs.Ring.{ColumnValue}
 use Rattle.model.specs.Record.{entries, entriesOf, writeTo}
 use Rattle.lookup.specs.Handle.{first-there}
 use Rattle.flag_bits.specs.Bits.{bits}
-use Rattle.record.proofs.Laws.{lent-sound, lent-write}
+use Rattle.lookup.proofs.Laws.{part-sound}
+use Rattle.record.proofs.Laws.{lent-write}
 use Rattle.batch.proofs.Laws.{columns-at}
 use borrow.Author.Needs.{needs}
 use Rattle.batch.proofs.store_schema.Statement.{statement}
@@ -57,7 +58,7 @@ write-batch-requires c κs =
     let k = at-slab (c .before) in
     let slab = k .slab-at .ensures in
     let pre = start (at-row k) .pre in
-    (lent-sound slab, (slab .some-interval, columns-at _ _ _ (pre .0) (pre .1 .0) (pre .1 .1) (at-row k .first-row .ensures .0) (slab .series-is)))
+    (part-sound slab, (slab .some-interval, columns-at _ _ _ (pre .0) (pre .1 .0) (pre .1 .1) (at-row k .first-row .ensures .0) (slab .series-is)))
 
 with-flag-requires : tie.Need-with-flag-requires
 with-flag-requires c κs =

@@ -1,6 +1,6 @@
 -- `figure::point_at` meets its contract: the slab is the part of the image that the row names. Assumes nothing.
 use native.Mathlib.Omega.{arith}
-use Rattle.tiers.proofs.Laws.{starts-before, part-sized}
+use Rattle.lookup.proofs.Laws.{starts-before, part-sized}
 use Rattle.figure.proofs.Laws.{column-in, last-at}
 use borrow.Author.Needs.{needs}
 use Rattle.figure.proofs.point_at.Statement.{statement}

@@ -1,6 +1,6 @@
 -- `figure::service_at` meets its contract: the last point of the slab that the row names, with the ring's ends. Assumes nothing.
 use native.Mathlib.Omega.{arith}
-use Rattle.tiers.proofs.Laws.{starts-before, part-sized}
+use Rattle.lookup.proofs.Laws.{starts-before, part-sized}
 use Rattle.figure.proofs.Laws.{column-in, none-served, point-served}
 use borrow.Author.Needs.{needs}
 use Rattle.figure.proofs.service_at.Statement.{statement}

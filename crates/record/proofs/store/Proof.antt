@@ -1,7 +1,8 @@
 -- `record::store` meets its contract: the row's slab is lent on, and what comes back is put in its place. Assumes nothing.
 use native.Mathlib.Omega.{arith}
 use Rattle.ring.specs.Parts.{one}
-use Rattle.record.proofs.Laws.{lent-sound, lent-write}
+use Rattle.lookup.proofs.Laws.{part-sound}
+use Rattle.record.proofs.Laws.{lent-write}
 use borrow.Author.Needs.{needs}
 use Rattle.record.proofs.store.Statement.{statement}
 use Rattle.record.proofs.store.Tie as tie
@@ -22,7 +23,7 @@ part-write-end : tie.Need-part-write-end
 part-write-end c = search needs
 
 write-requires : tie.Need-write-requires
-write-requires c κs = (lent-sound (c .before .before .slab-at .ensures), (c .before .before .slab-at .ensures .some-interval, omega arith))
+write-requires c κs = (part-sound (c .before .before .slab-at .ensures), (c .before .before .slab-at .ensures .some-interval, omega arith))
 
 same-length : tie.Need-same-length
 same-length c = search needs

@@ -1,6 +1,7 @@
 -- `tiers::ring_at` meets its contract: the slab is the part of the image that the row names. Assumes nothing.
 use native.Mathlib.Omega.{arith}
-use Rattle.tiers.proofs.Laws.{starts-before, part-sized, reached}
+use Rattle.lookup.proofs.Laws.{starts-before, part-sized}
+use Rattle.tiers.proofs.Laws.{reached}
 use borrow.Author.Needs.{needs}
 use Rattle.tiers.proofs.ring_at.Statement.{statement}
 use Rattle.tiers.proofs.ring_at.Tie as tie
