@@ -1,0 +1,3 @@
+pub mod Before
+pub mod AsBefore
+pub mod Instance
