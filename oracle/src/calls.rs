@@ -180,7 +180,7 @@ pub fn entry_bytes(entries: &[(u32, u32, u64)], tail: u8) -> Vec<u8> {
 
 #[derive(Clone, Debug, PartialEq, Eq)]
 pub enum Answer {
-    /// Document 01's number, or 17.
+    /// Document 01's number, 17 or 18.
     Refused(u32),
     Done,
     Count(u64),
@@ -222,10 +222,9 @@ pub struct State<'a> {
 pub enum Kind {
     /// All calls, all bytes: a reading of document 01, or the proved library.
     Whole,
-    /// `Store` of the Rust: no check of handles, no bound of 2^63 [D]; a refused run
-    /// loses the marks of finished pairs.
+    /// `Store` of the Rust: no check of handles, no bound of 2^63 [D].
     Store,
-    /// The Rust's rings with one engine kept: the marks stay. It has no queries.
+    /// The Rust's rings with one engine kept. It has no queries.
     Engine,
 }
 
@@ -241,8 +240,6 @@ pub trait Side {
     }
     fn call(&mut self, call: &Call) -> Answer;
     fn state(&self) -> State<'_>;
-    /// Sets the marks, where a refused run lost them (`Kind::Store`).
-    fn set_marks(&mut self, _marks: &[u64]) {}
     /// Takes these slabs and marks in place of its own; an opening follows (sides of the Rust).
     fn hand(&mut self, _slabs: &[&[u8]], _marks: &[u64]) {}
 }

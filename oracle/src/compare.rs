@@ -1,8 +1,8 @@
 //! Runs one list of calls on all sides and compares after each call; makes a list that
 //! shows a difference as small as it can.
 
-use crate::calls::{Answer, Call, Kind, OPEN, Plan, Side, State, Tier};
-use crate::plain::{self, Flags, HEADER, ROW, infinite};
+use crate::calls::{Answer, Call, Cell, Kind, OPEN, Plan, Side, State, Tier};
+use crate::plain::{self, Flags, HEADER, OLD_SAMPLE, ROW, infinite};
 use crate::sides::{Lent, Plain, lent_flags, published};
 
 #[derive(Clone, Debug, PartialEq, Eq)]
@@ -44,7 +44,19 @@ pub struct Tally {
     /// Answers of the Rust's sides held against them.
     pub compared: u64,
     pub points: u64,
-    pub refusals: [u64; 18],
+    pub refusals: [u64; 19],
+    /// Calls on histories that the Rust is run beside, one or more of its sides held to them; lists
+    /// that stopped being such a history, and their calls from there on.
+    pub in_order: u64,
+    pub left: u64,
+    pub alone: u64,
+    /// Old samples: records into an interval that the slot holds a later stamp of, and into a slot that
+    /// holds a later interval; batches into one ring, over rings one of which would take them, over
+    /// rings that all refuse.
+    pub old: [u64; 5],
+    /// Writes that runs passed over; the runs; those of them that made no write, that were refused, that
+    /// stand in lists in which nobody else wrote.
+    pub passed: [u64; 5],
     /// The panel's figures and the service figures, each given, none and refused; and those of them
     /// that one or more of the Rust's sides were held to.
     pub panels: [u64; 3],
@@ -54,8 +66,6 @@ pub struct Tally {
     pub not_asked: u64,
     /// Runs after which the published Rust went another way by its hash order.
     pub by_hash_order: u64,
-    /// Refused runs that lost a finished pair's mark in the Rust.
-    pub marks_lost: u64,
     /// Openings refused; accepted; and those of them where document 01's rule sets other flags: some
     /// flag true by request 2026-02 alone, some by document 01 alone.
     pub not_opened: u64,
@@ -108,7 +118,9 @@ impl Tally {
         self.points += t.points;
         self.not_asked += t.not_asked;
         self.by_hash_order += t.by_hash_order;
-        self.marks_lost += t.marks_lost;
+        self.in_order += t.in_order;
+        self.left += t.left;
+        self.alone += t.alone;
         self.not_opened += t.not_opened;
         self.opened += t.opened;
         self.parted += t.parted;
@@ -128,6 +140,63 @@ impl Tally {
         self.panels.iter_mut().zip(t.panels).for_each(|(a, b)| *a += b);
         self.services.iter_mut().zip(t.services).for_each(|(a, b)| *a += b);
         self.refusals.iter_mut().zip(t.refusals).for_each(|(a, b)| *a += b);
+        self.old.iter_mut().zip(t.old).for_each(|(a, b)| *a += b);
+        self.passed.iter_mut().zip(t.passed).for_each(|(a, b)| *a += b);
+    }
+
+    /// Which kind of old sample was refused, the image being this.
+    fn old_sample(&mut self, call: &Call, image: &[u8]) {
+        let c = plain::check(image).expect("a sound image");
+        let slab = |schema: u32| &image[c.rows[c.tiers(schema)[0]].place()];
+        let kind = match call {
+            &Call::Record { schema, stamp, .. } => {
+                let slab = slab(schema);
+                let interval = plain::get64(slab, 24);
+                let held = plain::stamp(slab, plain::slot_of(slab, stamp));
+                (held / interval != stamp / interval) as usize
+            }
+            Call::Batch { entries, stamp, .. } => {
+                let several = entries.iter().any(|e| e.0 != entries[0].0);
+                let all = entries.iter().all(|e| plain::is_old(slab(e.0), *stamp));
+                2 + several as usize * (1 + all as usize)
+            }
+            _ => unreachable!("18 is a recording's"),
+        };
+        self.old[kind] += 1;
+    }
+}
+
+/// Whether a list is one that the Rust is run beside (request 2026-05): schema by schema the stamps of
+/// recordings that pass 11, 12 and 13 never fall, and no run is refused; nor does anybody else write
+/// stamps, cursors or marks.
+#[derive(Default)]
+pub struct History {
+    newest: [u64; 8],
+    left: bool,
+}
+
+impl History {
+    /// Takes a call and its answer by the rules: false from the first on with which it is no longer so.
+    pub fn goes_on(&mut self, call: &Call, answer: &Answer) -> bool {
+        let passes = !matches!(answer, Answer::Refused(n) if *n != OLD_SAMPLE);
+        let mut falls = |schema: u32, stamp: u64| {
+            let newest = &mut self.newest[schema as usize];
+            let falls = stamp < *newest;
+            *newest = stamp.max(*newest);
+            falls
+        };
+        let leaves = match call {
+            Call::Record { schema, stamp, .. } if passes => falls(*schema, *stamp),
+            Call::Batch { entries, stamp, .. } if passes => {
+                entries.iter().fold(false, |any, e| falls(e.0, *stamp) | any)
+            }
+            Call::Consolidate => matches!(answer, Answer::Refused(_)),
+            Call::Poke { cell: Cell::Stamp { .. } | Cell::Cursor(_) | Cell::Mark(_), .. } => true,
+            Call::Damage { .. } | Call::Cut { .. } => true,
+            _ => false,
+        };
+        self.left |= leaves;
+        !self.left
     }
 }
 
@@ -149,7 +218,6 @@ pub fn asked(kind: Kind, call: &Call, leader: &Answer) -> Asked {
         (Kind::Whole, _) => Asked::Yes,
         (_, Call::Next { .. }) => Asked::Pass,
         (Kind::Engine, call) if call.reads() => Asked::Pass,
-        (_, Call::Consolidate) if refused == 10 => Asked::Stop,
         (_, Call::Open { .. }) if refused != 0 => Asked::Stop,
         _ if refused == 11 => Asked::Pass,
         (_, Call::Record { stamp, .. } | Call::Batch { stamp, .. })
@@ -185,11 +253,6 @@ fn old_flags(opened: &State) -> Vec<bool> {
 
 /// Where two states differ first, in words.
 fn unlike(ours: &State, theirs: &State) -> Option<String> {
-    unlike_but(ours, theirs, &ours.marks)
-}
-
-/// The same, with these marks wanted.
-fn unlike_but(ours: &State, theirs: &State, marks: &[u64]) -> Option<String> {
     for (row, (a, b)) in ours.slabs.iter().zip(&theirs.slabs).enumerate() {
         if a.len() != b.len() {
             return Some(format!("row {row}: slab length {} and {}", a.len(), b.len()));
@@ -211,8 +274,8 @@ fn unlike_but(ours: &State, theirs: &State, marks: &[u64]) -> Option<String> {
     if ours.flags != theirs.flags {
         return Some(format!("flags {:?} and {:?}", ours.flags, theirs.flags));
     }
-    if marks != theirs.marks {
-        return Some(format!("marks {marks:?} and {:?}", theirs.marks));
+    if ours.marks != theirs.marks {
+        return Some(format!("marks {:?} and {:?}", ours.marks, theirs.marks));
     }
     if let (Some(a), Some(b)) = (&ours.lent, &theirs.lent)
         && a != b
@@ -355,7 +418,16 @@ pub fn run(list: &List, sides: &mut [Box<dyn Side>], tally: &mut Tally) -> Optio
         }
         tally.count(side.kind());
     }
+    let with_rust = sides.iter().any(|s| s.kind() != Kind::Whole && follows(s.as_ref()));
+    tally.in_order += with_rust as u64;
+    let (mut history, mut in_order) = (History::default(), true);
+    let (mut poked, mut halted) = (false, false);
     for (i, call) in list.calls.iter().enumerate() {
+        poked |= matches!(call, Call::Poke { .. } | Call::Damage { .. } | Call::Cut { .. });
+        let passed = match call {
+            Call::Consolidate => plain::passed_over(&before.image, &before.flags),
+            _ => (0, 0),
+        };
         let ours = leader.call(call);
         let after = leader.state();
         tally.calls += 1;
@@ -365,6 +437,35 @@ pub fn run(list: &List, sides: &mut [Box<dyn Side>], tally: &mut Tally) -> Optio
             _ => {}
         }
         tally.figure(call, &ours);
+        if ours == Answer::Refused(OLD_SAMPLE) && *call != Call::Consolidate {
+            tally.old_sample(call, &before.image);
+        }
+        if passed.1 > 0 {
+            let refused = matches!(ours, Answer::Refused(_));
+            tally.passed[0] += passed.1;
+            tally.passed[1] += 1;
+            tally.passed[2] += (passed.0 == 0 && !refused) as u64;
+            tally.passed[3] += refused as u64;
+            tally.passed[4] += !poked as u64;
+        }
+        let was = std::mem::replace(&mut in_order, history.goes_on(call, &ours));
+        // From creation, nobody else writing, no run refused: a run passes nothing over, whatever the
+        // order of the samples.
+        let passes = passed.1 > 0 && !poked && !halted;
+        if passes || (in_order && (ours == Answer::Refused(OLD_SAMPLE) || passed.1 > 0)) {
+            let what = "an old sample or write where there can be none".to_string();
+            return differs(i + 1, leader.name(), what);
+        }
+        halted |= *call == Call::Consolidate && matches!(ours, Answer::Refused(_));
+        if was && !in_order && with_rust {
+            tally.left += 1;
+            for (side, stand) in sides.iter().zip(&mut stands) {
+                if side.kind() != Kind::Whole {
+                    *stand = Stand::Gone;
+                }
+            }
+        }
+        tally.alone += (with_rust && !in_order) as u64;
         if let &Call::Open { handed: Some(number) } = call {
             before.flags = plain::flags_of(number);
         }
@@ -425,33 +526,25 @@ pub fn run(list: &List, sides: &mut [Box<dyn Side>], tally: &mut Tally) -> Optio
                 }
             };
             tally.count(side.kind());
-            let lost = side.kind() == Kind::Store
-                && *call == Call::Consolidate
-                && matches!(ours, Answer::Refused(_));
-            let marks = if lost { &before.marks } else { &after.marks };
             let what = if ours != theirs {
                 Some(format!("{} and {}", words(&ours), words(&theirs)))
             } else {
-                unlike_but(&after, &side.state(), marks)
+                unlike(&after, &side.state())
             };
             if let Some(what) = what {
-                let several = matches!(ours, Answer::Count(2..) | Answer::Refused(12 | 13 | 16));
-                if side.name() == "published" && *call == Call::Consolidate && several {
+                if side.name() == "published" && matches!(ours, Answer::Count(2..)) {
                     tally.by_hash_order += 1;
                     *stand = Stand::Gone;
                     continue;
                 }
                 return differs(i + 1, side.name(), what);
             }
-            if lost && before.marks != after.marks {
-                tally.marks_lost += 1;
-                side.set_marks(&after.marks);
-            }
             beside |= opened && rust;
             held |= rust;
         }
         let figure = matches!(call, Call::Panel { .. } | Call::Service { .. });
         tally.figures_beside += (figure && held) as u64;
+        tally.in_order += (held || seen_old) as u64;
         tally.beside += beside as u64;
         tally.seen_old += seen_old as u64;
         tally.returned += returned as u64;
@@ -601,3 +694,7 @@ pub fn show(list: &List, d: &Difference) {
         println!("  {}: {call:x?}", i + 1);
     }
 }
+
+#[cfg(test)]
+#[path = "compare_cases.rs"]
+mod cases;

@@ -1,4 +1,4 @@
-//! The third demand: document 01's words for it with requests 2026-01 and 2026-02, and lists that
+//! The third demand: document 01's words for it with requests 2026-01, 2026-02 and 2026-05, and lists that
 //! meet its supposition. A list's samples and runs go by the plain reading.
 
 use std::collections::BTreeMap;
@@ -162,10 +162,14 @@ impl Samples {
 pub fn check(library: impl Library, plan: &Plan, calls: &[Call]) -> Result<u64, String> {
     let mut side = Lent::new("third demand", library);
     side.create(plan);
+    // What is accepted goes by the rules, whatever the library answers.
+    let mut rules = Lent::new("document 01", Plain);
+    rules.create(plan);
     let (mut samples, mut ran, mut checked) = (Samples::default(), false, 0);
     for (i, call) in calls.iter().enumerate() {
         let answer = side.call(call);
-        for event in events_of(call, &answer) {
+        let by_rules = if call.reads() { Answer::Done } else { rules.call(call) };
+        for event in events_of(call, &by_rules) {
             ran = event == Event::Run;
             if let Event::Sample(column, stamp, value) = event {
                 samples.take(column, stamp, value);
@@ -243,7 +247,8 @@ pub fn plan(r: &mut Random, intervals: &[u64]) -> Plan {
 
 /// A list on such a plan that meets the supposition, with the queries that it speaks of after each
 /// run, and calls between that are refused or change nothing; openings, handed any flags, among them.
-pub fn list(r: &mut Random, plan: Plan, schedule: Schedule, ticks: u64) -> List {
+/// `old`: samples that their slot holds a later stamp than, too (18, request 2026-05).
+pub fn list(r: &mut Random, plan: Plan, schedule: Schedule, ticks: u64, old: bool) -> List {
     let tiers = &plan.0[0].tiers;
     let (fine, coarse) = (tiers[0].interval, tiers[tiers.len() - 1].interval);
     let first = coarse * (1 + r.below(9));
@@ -274,9 +279,22 @@ pub fn list(r: &mut Random, plan: Plan, schedule: Schedule, ticks: u64) -> List 
     // Half of the lists have no openings; in the others they stand anywhere.
     let opens = if ticks > 1000 { r.of(&[0, 300]) } else { r.of(&[0, 0, 0, 1, 3, 20]) };
     let mut calls = Vec::new();
+    let lap = tiers[0].retention / fine * fine;
+    // The last stamp that is in: a lap below it, and below those before it, is old.
+    let last = std::cell::Cell::new(0);
     let stir = |r: &mut Random, calls: &mut Vec<Call>| {
         if r.one_in(8) {
             calls.push(noise[r.below(noise.len() as u64) as usize].clone());
+        }
+        let held = (last.get() + fine).saturating_sub(first).min(lap) / fine;
+        let below = (last.get() + fine).saturating_sub(fine * (1 + r.below(held.max(1))) + lap);
+        if old && held > 0 && below > 0 && r.one_in(4) {
+            let stamp = below + r.below(fine);
+            let entries = vec![(0, 0, 0), (0, 1, 0)];
+            calls.push(match r.below(3) {
+                0 => Call::Batch { entries, tail: 0, stamp },
+                column => Call::Record { schema: 0, column: column as u32 - 1, value: 0, stamp },
+            });
         }
         if opens > 0 && r.one_in(opens) {
             calls.push(generate::opening(r));
@@ -293,9 +311,11 @@ pub fn list(r: &mut Random, plan: Plan, schedule: Schedule, ticks: u64) -> List 
         stir(r, &mut calls);
         if r.one_in(2) {
             calls.push(Call::Batch { entries, tail: 0, stamp });
+            last.set(stamp);
         } else {
             for (schema, column, value) in entries {
                 calls.push(Call::Record { schema, column, value, stamp });
+                last.set(stamp);
                 stir(r, &mut calls);
             }
         }
@@ -347,7 +367,8 @@ pub fn third_demand(s: &mut Session, r: &mut Random) {
     }
     let ticks = per * (1 + r.below(5)) + if schedule == LastTicks { 0 } else { r.below(per) };
     let plan = plan(r, &intervals);
-    demanded(s, list(r, plan, schedule, ticks));
+    let old = r.one_in(4);
+    demanded(s, list(r, plan, schedule, ticks, old));
 }
 
 /// The same for seconds, minutes and hours, and for the greatest ratio.
@@ -361,7 +382,7 @@ pub fn third_demand_large(s: &mut Session) {
                 let r = &mut Random(i as u64);
                 let per = intervals[intervals.len() - 1] / intervals[0];
                 let plan = plan(r, intervals);
-                demanded(s, list(r, plan, schedule, 4 * per));
+                demanded(s, list(r, plan, schedule, 4 * per, false));
             }
         }
     }

@@ -196,15 +196,43 @@ fn altered_points() {
 #[test]
 fn lists_meet_the_supposition() {
     use Schedule::*;
+    let mut old = 0;
     for i in 0..400 {
         let mut r = Random(i);
         let schedule = [EachTick, SomeTicks, EarlyAndLate, LastTicks][i as usize % 4];
         let plan = plan(&mut r, &[10, 20, 60]);
-        let list = list(&mut r, plan, schedule, 6 * (1 + i / 4 % 5));
+        let list = list(&mut r, plan, schedule, 6 * (1 + i / 4 % 5), i % 3 == 0);
+        old += olds(&list);
+        assert!(i % 3 == 0 || olds(&list) == 0);
         let events = events(&list.plan, &list.calls);
         assert!(supposed(&list.plan, &events));
         let checked = check(Plain, &list.plan, &list.calls).unwrap();
         // The least: after each coarsest interval, one column.
         assert!(schedule == EarlyAndLate || checked >= 3 * (1 + i / 4 % 5));
     }
+    assert!(old > 500, "{old}");
+}
+
+/// How many calls of a list are refused with 18.
+fn olds(list: &List) -> u64 {
+    let mut side = Lent::new("document 01", Plain);
+    side.create(&list.plan);
+    list.calls.iter().filter(|c| side.call(c) == Answer::Refused(18)).count() as u64
+}
+
+/// Request 2026-05: old samples between, whatever they are, are refused and change nothing; taken, they
+/// break the demand.
+#[test]
+fn old_samples_anywhere() {
+    let plan = plan_of(&[(1, 4), (2, 2)]);
+    let mut calls = calls_of(&plan, "6 7 run 8 9 run");
+    for at in (2..=calls.len()).rev() {
+        // 6 and 7 are in, and their slots hold no earlier stamps.
+        calls.insert(at, crate::record(0, 2, 1.0));
+        calls.insert(at, crate::record(0, 3, 1.0));
+    }
+    assert_eq!(olds(&List::new(plan.clone(), calls.clone())), calls.len() as u64 / 3 * 2);
+    assert!(supposed(&plan, &events(&plan, &calls)));
+    assert_eq!(check(Plain, &plan, &calls), Ok(4));
+    assert!(check(Faulty(Fault::OldIsTaken), &plan, &calls).is_err());
 }

@@ -1,13 +1,14 @@
 //! Libraries with one fault each, set beside the plain reading as a third side would be:
 //! the driver must tell them apart. The faults are those that document 01 wants caught,
 //! its traps, other starts of a reading than that of request 2026-01, other flags at opening than
-//! those of request 2026-02, and other figures than those of request 2026-04.
+//! those of request 2026-02, other figures than those of request 2026-04, and other rules for old
+//! samples than that of request 2026-05.
 
-use crate::calls::{Answer, Side};
+use crate::calls::{Answer, Side, entry_bytes};
 use crate::compare::{List, Tally, run, shrink};
 use crate::figures;
 use crate::generate::{self, Random};
-use crate::plain::{self, FRESH, Figure, Flags, HEADER, ROW, Window};
+use crate::plain::{self, FRESH, Figure, Flags, Found, HEADER, ROW, Window};
 use crate::sides::{Lent, Library, Plain};
 
 #[derive(Clone, Copy, Debug, PartialEq)]
@@ -62,6 +63,34 @@ pub enum Fault {
     PanelShowsTheInfinite,
     ServiceRefusesBeyond,
     FiguresTryTheTierFirst,
+    // Which sample is old, in recordings and runs.
+    OldIsTaken,
+    EqualIsOld,
+    OldByTheNewest,
+    OldByTheInterval,
+    // In recordings: which column's, which refusal comes first, which rings are asked, what stays.
+    OldByTheColumn,
+    OldBefore12,
+    OldBefore13,
+    BatchOldBefore12,
+    BatchOldBefore13,
+    BatchStoresUpToTheOld,
+    BatchStoresAllButTheOld,
+    BatchAsksTheFirstRing,
+    BatchAsksAllRings,
+    OldMovesTheFlag,
+    OldMovesTheCursor,
+    // In runs.
+    RunEndsWith18,
+    RunWritesTheOld,
+    PassedOverBefore12,
+    PassedOverBefore13,
+    PassedOverMovesTheFlag,
+    PassedOverMovesTheCursor,
+    PassedOverStoresTheValue,
+    PassedOverIsCounted,
+    PassedOverMovesTheMark,
+    NothingAfterAPassedOver,
 }
 use Fault::*;
 
@@ -140,6 +169,72 @@ impl Fault {
         }
     }
 
+    fn old(self) -> plain::Old {
+        match self {
+            OldIsTaken => |_, _| false,
+            EqualIsOld => |slab, at| at <= plain::stamp(slab, plain::slot_of(slab, at)),
+            OldByTheNewest => |slab, at| plain::newest(slab).is_some_and(|newest| at < newest),
+            OldByTheInterval => |slab, at| {
+                let number = |stamp: u64| stamp / plain::get64(slab, 24);
+                number(at) < number(plain::stamp(slab, plain::slot_of(slab, at)))
+            },
+            _ => plain::is_old,
+        }
+    }
+
+    /// A run's write.
+    fn put(self, slab: &mut [u8], flag: &mut bool, found: Found) -> Result<bool, u32> {
+        let (window, column, value) = found;
+        let old = self.old()(slab, window);
+        let (bad_value, bad_stamp) = (plain::value_check(value), plain::stamp_check(window));
+        if !(old && self == PassedOverBefore12) {
+            bad_value?;
+        }
+        if !(old && matches!(self, PassedOverBefore12 | PassedOverBefore13)) {
+            bad_stamp?;
+        }
+        if !old || self == RunWritesTheOld {
+            plain::write(slab, flag, window, &[(column, value)]);
+            return Ok(true);
+        }
+        let slot = plain::slot_of(slab, window);
+        match self {
+            RunEndsWith18 => return Err(plain::OLD_SAMPLE),
+            PassedOverMovesTheFlag => *flag |= slot < plain::cursor(slab),
+            PassedOverMovesTheCursor => plain::put32(slab, 32, slot as u32),
+            PassedOverStoresTheValue => {
+                let at = plain::value_at(slab, column as usize, slot);
+                plain::put64(slab, at, value);
+            }
+            _ => {}
+        }
+        Ok(self == PassedOverIsCounted)
+    }
+
+    /// What a recording answers by 18 in another place, or of other rings.
+    fn misplaced(self, image: &[u8], entries: &[(u32, u32, u64)], stamp: u64, by: u32) -> u32 {
+        let first = |schema: u32| rows(image).into_iter().find(|r| r.schema == schema);
+        let old =
+            |schema: u32| first(schema).is_some_and(|row| self.old()(&image[row.place()], stamp));
+        let any = entries.iter().any(|e| old(e.0));
+        let fresh = |e: &(u32, u32, u64)| {
+            first(e.0).is_some_and(|row| {
+                let slab = &image[row.place()];
+                let slot = plain::slot_of(slab, stamp);
+                plain::nan(plain::get64(slab, plain::value_at(slab, e.1 as usize, slot)))
+            })
+        };
+        match (self, by) {
+            (OldBefore12 | BatchOldBefore12, 12) | (OldBefore13 | BatchOldBefore13, 13) if any => {
+                18
+            }
+            (OldByTheColumn, 18) if entries.iter().all(fresh) => 0,
+            (BatchAsksTheFirstRing, 18) if !old(entries[0].0) => 0,
+            (BatchAsksAllRings, 0) if !entries.is_empty() && (0..8).any(old) => 18,
+            _ => by,
+        }
+    }
+
     fn apply(self) -> plain::Apply {
         match self {
             DividesEachValue => |function, values| match plain::apply(function, values) {
@@ -152,6 +247,23 @@ impl Fault {
                 other => other,
             },
             _ => plain::apply,
+        }
+    }
+}
+
+impl Fault {
+    /// What a refused old sample leaves behind in its ring.
+    fn moves(self, image: &mut [u8], flags: &mut Flags, schema: u32, stamp: u64) {
+        let rows = rows(image);
+        let Some(i) = rows.iter().position(|r| r.schema == schema) else {
+            return;
+        };
+        let slab = &mut image[rows[i].place()];
+        let slot = plain::slot_of(slab, stamp);
+        match self {
+            OldMovesTheFlag => flags[i] |= slot < plain::cursor(slab),
+            OldMovesTheCursor => plain::put32(slab, 32, slot as u32),
+            _ => {}
         }
     }
 }
@@ -204,7 +316,26 @@ impl Library for Faulty {
         if self.0 == RecordStoresNothing {
             return Plain.record(&mut image.to_vec(), &mut flags.clone(), sample);
         }
-        let number = Plain.record(image, flags, sample);
+        let (schema, column, value, stamp) = sample;
+        let mut stored = (image.to_vec(), *flags);
+        let by = plain::record_by(&mut stored.0, &mut stored.1, sample, self.0.old());
+        let by = by.err().unwrap_or(0);
+        let batch = matches!(self.0, BatchOldBefore12 | BatchOldBefore13 | BatchAsksAllRings);
+        let number = match batch {
+            true => by,
+            false => self.0.misplaced(image, &[(schema, column, value)], stamp, by),
+        };
+        if number == 0 && by == 18 {
+            let taken = plain::record_by(image, flags, sample, OldIsTaken.old());
+            return taken.err().unwrap_or(0);
+        }
+        if number == 0 {
+            image.copy_from_slice(&stored.0);
+            *flags = stored.1;
+        }
+        if number == 18 {
+            self.0.moves(image, flags, schema, stamp);
+        }
         if number == 0 && self.0 == ClearsOtherColumns {
             let row = rows(image).into_iter().find(|r| r.schema == sample.0).unwrap();
             let (n, m) = (row.slots() as usize, row.series as usize);
@@ -228,9 +359,39 @@ impl Library for Faulty {
         if self.0 == TailIsRead && entries.len() % 16 == 15 {
             entries.push(0);
         }
-        let number = Plain.record_batch(image, flags, &entries, stamp);
+        let (list, before) = (plain::entries_of(&entries), (image.to_vec(), *flags));
+        let by = plain::record_batch_by(image, flags, &entries, stamp, self.0.old());
+        let by = by.err().unwrap_or(0);
+        let single = matches!(self.0, OldBefore12 | OldBefore13);
+        let number = match single {
+            true => by,
+            false => self.0.misplaced(&before.0, &list, stamp, by),
+        };
+        if number == 0 && by == 18 {
+            let taken = plain::record_batch_by(image, flags, &entries, stamp, OldIsTaken.old());
+            return taken.err().unwrap_or(0);
+        }
+        if number == 18 && by == 0 {
+            image.copy_from_slice(&before.0);
+            *flags = before.1;
+        }
         if number == 12 && self.0 == RefusedBatchStores {
             Plain.record_batch(image, flags, &entries[..16], stamp);
+        }
+        if number == 18 {
+            for schema in 0..8 {
+                let own: Vec<_> = list.iter().filter(|e| e.0 == schema).copied().collect();
+                if own.is_empty()
+                    || !matches!(self.0, BatchStoresUpToTheOld | BatchStoresAllButTheOld)
+                {
+                    continue;
+                }
+                let done = Plain.record_batch(image, flags, &entry_bytes(&own, 0), stamp);
+                if done != 0 && self.0 == BatchStoresUpToTheOld {
+                    break;
+                }
+            }
+            self.0.moves(image, flags, list[0].0, stamp);
         }
         number
     }
@@ -304,8 +465,22 @@ impl Library for Faulty {
 
     fn consolidate(&self, image: &mut [u8], flags: &mut Flags) -> Answer {
         let before = image.to_vec();
-        let answer = plain::consolidate_by(image, flags, (self.0.start(), self.0.apply()))
-            .map_or_else(Answer::Refused, Answer::Count);
+        let (mut passed, mut uncounted) = (false, 0);
+        let mut put = |slab: &mut [u8], flag: &mut bool, found: Found| {
+            if passed && self.0 == NothingAfterAPassedOver {
+                return Ok(false);
+            }
+            let done = self.0.put(slab, flag, found)?;
+            passed |= !done;
+            if !done && self.0 == PassedOverMovesTheMark {
+                uncounted += 1;
+                return Ok(true);
+            }
+            Ok(done)
+        };
+        let by = (self.0.start(), self.0.apply());
+        let answer = plain::consolidate_by(image, flags, by, &mut put)
+            .map_or_else(Answer::Refused, |n| Answer::Count(n - uncounted));
         for (i, row) in rows(image).into_iter().enumerate() {
             let (n, m) = (row.slots() as usize, row.series as usize);
             let stamps = row.offset as usize + 64 + 4 * m;
@@ -390,7 +565,7 @@ fn each_fault_is_caught_and_no_other() {
         (StartsAfterTheMark, 3),
         (StartsAtTheMark, 4),
         (StartsAfterTheMarksWindow, 3),
-        (StartsAtTheOldest, 4),
+        (StartsAtTheOldest, 5),
         (FlagOfDocument01, 3),
         (FlagNever, 3),
         (FlagAlways, 1),
@@ -402,6 +577,46 @@ fn each_fault_is_caught_and_no_other() {
         (RefusedOpeningSets, 2),
     ] {
         let calls = caught(fault).unwrap_or_else(|| panic!("{fault:?} was not caught"));
+        println!("{fault:?}: {calls} calls");
+        assert!(calls <= most, "{fault:?}: {calls} calls");
+    }
+}
+
+/// The lists of the part `old samples` tell these apart, and those of the part `in order` take no sound
+/// library for a faulty one.
+#[test]
+fn each_fault_with_old_samples_is_caught() {
+    let old = |i| generate::old_samples(&mut Random(i), 80);
+    let order = |i| generate::in_order(&mut Random(i), 80);
+    assert_eq!((caught_by(None_, old), caught_by(None_, order)), (None, None));
+    for (fault, most) in [
+        (OldIsTaken, 2),
+        (EqualIsOld, 2),
+        (OldByTheNewest, 2),
+        (OldByTheInterval, 2),
+        (OldByTheColumn, 2),
+        (OldBefore12, 2),
+        (OldBefore13, 2),
+        (BatchOldBefore12, 2),
+        (BatchOldBefore13, 2),
+        (BatchStoresUpToTheOld, 2),
+        (BatchStoresAllButTheOld, 2),
+        (BatchAsksTheFirstRing, 2),
+        (BatchAsksAllRings, 2),
+        (OldMovesTheFlag, 3),
+        (OldMovesTheCursor, 3),
+        (RunEndsWith18, 7),
+        (RunWritesTheOld, 7),
+        (PassedOverBefore12, 7),
+        (PassedOverBefore13, 7),
+        (PassedOverMovesTheFlag, 7),
+        (PassedOverMovesTheCursor, 7),
+        (PassedOverStoresTheValue, 7),
+        (PassedOverIsCounted, 7),
+        (PassedOverMovesTheMark, 7),
+        (NothingAfterAPassedOver, 7),
+    ] {
+        let calls = caught_by(fault, old).unwrap_or_else(|| panic!("{fault:?} was not caught"));
         println!("{fault:?}: {calls} calls");
         assert!(calls <= most, "{fault:?}: {calls} calls");
     }
@@ -419,16 +634,16 @@ fn each_faulty_figure_is_caught() {
         (FigureOfTheNewestAlone, 4),
         (FigureUpToTheTop, 4),
         (FigureUpToSlot0, 3),
-        (FigureRoundAnyRing, 4),
+        (FigureRoundAnyRing, 5),
         (EndsOfTheColumn, 4),
         (PanelCuts, 3),
-        (PanelAddsHalfAndCuts, 2),
-        (PanelRoundsTiesAway, 2),
-        (PanelIsASingle, 2),
+        (PanelAddsHalfAndCuts, 3),
+        (PanelRoundsTiesAway, 3),
+        (PanelIsASingle, 3),
         (PanelShowsZeroForNone, 1),
         (PanelRefusesNone, 1),
-        (PanelRefusesTheLimit, 2),
-        (PanelShowsOneBeyond, 2),
+        (PanelRefusesTheLimit, 3),
+        (PanelShowsOneBeyond, 3),
         (PanelShowsTheInfinite, 3),
         (ServiceRefusesBeyond, 3),
         (FiguresTryTheTierFirst, 1),

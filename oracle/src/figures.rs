@@ -92,7 +92,7 @@ fn poke(r: &mut Random, plan: &Plan, now: u64) -> Call {
     Call::Poke { row, cell }
 }
 
-/// Rings that have wrapped or not, columns without a value, and in half of the lists somebody else
+/// Rings that have wrapped or not, columns without a value, and in a third of the lists somebody else
 /// who writes. In a fourth of them any number of series: for sides on lent bytes.
 pub fn list(r: &mut Random) -> List {
     let mut plan = generate::plan(r);
@@ -100,9 +100,11 @@ pub fn list(r: &mut Random) -> List {
     if raw {
         plan.0.iter_mut().for_each(|s| s.series = r.of(&[1, 1, 2, 3, 5]));
     }
-    let (pokes, empty, nans) = (r.one_in(2), r.of(&[0, 1, 9, 9]), r.of(&[2, 5, 20]));
+    let (pokes, empty, nans) = (r.one_in(3), r.of(&[0, 1, 9, 9]), r.of(&[2, 5, 20]));
+    // In most lists that nobody else writes in, stamps never fall.
+    let order = !pokes && !r.one_in(4);
     let coarsest = plan.0.iter().map(|s| s.tiers[s.tiers.len() - 1].interval).max().unwrap();
-    let mut now = coarsest * r.of(&[0, 1, 1, 3]);
+    let mut now = coarsest * if order { 4 } else { r.of(&[0, 1, 1, 3]) };
     let mut calls = Vec::new();
     for _ in 0..20 + r.below(60) {
         let schema = r.below(plan.0.len() as u64) as u32;
@@ -110,7 +112,7 @@ pub fn list(r: &mut Random) -> List {
         let (fine, column) = (own.tiers[0], r.below(own.series as u64) as u32);
         let lap = fine.retention / fine.interval * fine.interval;
         now = (now + fine.interval * r.of(&[0, 1, 1, 1, 1, 2])).min(1 << 62);
-        let back = if r.one_in(9) { r.below(lap + 1) } else { 0 };
+        let back = if !order && r.one_in(9) { r.below(lap + 1) } else { 0 };
         calls.push(match r.below(12) {
             0 => generate::opening(r),
             1 => Call::Consolidate,

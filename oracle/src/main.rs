@@ -176,15 +176,64 @@ fn exhaustive_any_series(s: &mut Session) {
     }
 }
 
+/// Every short list of batches into two schemas, of both and of one; then what a run meets after a
+/// refused one: every list of three calls over samples that overflow, that do not, and runs.
+fn old_samples(s: &mut Session) {
+    let at = |schema: u32, stamp: u64| (schema, stamp as u32 % 2, (stamp as f64).to_bits());
+    let all = |schema: u32| Call::Query { schema, column: 0, tier: 0, start: 0, end: u64::MAX };
+    for (n, k) in [(1, 3), (2, 2), (3, 1)] {
+        let mut plan = one_schema(&[(2, n, 0)]);
+        plan.0.extend(one_schema(&[(3, k, 0)]).0);
+        let mut stock = Vec::new();
+        for stamp in 1..=7 {
+            let batch = |entries: Vec<_>| Call::Batch { entries, tail: 0, stamp };
+            stock.extend([batch(vec![at(0, stamp)]), batch(vec![at(1, stamp)])]);
+            stock.push(batch(vec![at(1, stamp), at(0, stamp)]));
+        }
+        generate::every(&plan, &stock, 3, |mut list| {
+            list.calls.extend([all(0), all(1)]);
+            s.list(list)
+        });
+    }
+    let huge = 1.7e308;
+    for (n, k) in [(6, 1), (6, 2), (8, 3), (12, 2), (3, 1)] {
+        for (first, second) in [(2, 4), (2, 6), (4, 6), (2, 8)] {
+            let plan = one_schema(&[(1, n, 0), (2, k, 1)]);
+            let (third, fourth) = (second + 2, second + 3);
+            let samples = [(first, 1.0), (second, 1.0), (third, huge), (fourth, huge)];
+            let mut stock = vec![Call::Consolidate, OPEN];
+            for (stamp, value) in
+                [(1, 1.0), (first, huge), (first + 1, huge), (second, f64::NAN), (fourth, 0.0)]
+            {
+                stock.push(record(0, stamp, value));
+            }
+            stock.extend([record(0, third, f64::NAN), record(1, first, 2.0)]);
+            generate::every(&plan, &stock, 3, |list| {
+                let mut calls = samples.map(|(stamp, value)| record(0, stamp, value)).to_vec();
+                calls.push(Call::Consolidate);
+                calls.extend(list.calls);
+                calls.extend([Call::Consolidate, all_time(1)]);
+                s.list(List::new(plan.clone(), calls))
+            });
+        }
+    }
+}
+
 /// Every range and tier of a few filled stores.
 fn ranges(s: &mut Session, seed: u64) {
-    for i in 0..20 {
+    for i in 0..40 {
         let mut r = Random(seed + i);
         let plan = one_schema(&[(1, 4, 0), (2, 3, 1), (6, 2, 3)]);
+        let mut stamps: Vec<u64> = (0..r.below(10)).map(|_| 1 + r.below(9)).collect();
+        if i % 2 == 1 {
+            // In time order, and behind window 0 of each tier, so that the Rust stays beside.
+            stamps.iter_mut().for_each(|t| *t += 5);
+            stamps.sort();
+        }
         let mut calls: Vec<Call> =
-            (0..r.below(10)).map(|_| record(0, 1 + r.below(9), r.below(5) as f64)).collect();
+            stamps.into_iter().map(|t| record(0, t, r.below(5) as f64)).collect();
         calls.insert(r.below(calls.len() as u64 + 1) as usize, Call::Consolidate);
-        let ends: Vec<u64> = (0..12).chain([u64::MAX - 1, u64::MAX]).collect();
+        let ends: Vec<u64> = (0..16).chain([u64::MAX - 1, u64::MAX]).collect();
         for &start in &ends {
             for &end in &ends {
                 let column = r.below(3) as u32;
@@ -218,6 +267,10 @@ fn parts(s: &mut Session, seed: u64, lists: u64, length: u64) {
     s.part("random", |s| some(s, lists, &|r| generate::list(r, length, false)));
     s.part("poked", |s| some(s, lists, &|r| generate::list(r, length, true)));
     s.part("any series", |s| some(s, lists, &|r| generate::any_series(r, length)));
+    s.part("in order", |s| some(s, lists, &|r| generate::in_order(r, 3 * length)));
+    s.part("in order, poked", |s| some(s, lists / 4, &|r| generate::poked_in_order(r, length)));
+    s.part("old samples", |s| some(s, 2 * lists, &|r| generate::old_samples(r, length)));
+    s.part("old samples, exhaustive", old_samples);
     s.part("readers", |s| each(s, lists, &|r| generate::readers(r, length)));
     s.part("damaged", |s| some(s, 10 * lists, &generate::damaged));
     s.part("long", |s| some(s, lists / 100, &generate::long));
@@ -278,8 +331,21 @@ fn main() {
         println!("{name}: {} lists, {} calls, {seconds:.1} s of a thread", own.lists, own.calls);
     }
     let found: u64 = done.iter().map(|d| d.1).sum();
-    println!("refusals 1 to 17: {:?}", &t.refusals[1..]);
+    println!("refusals 1 to 18: {:?}", &t.refusals[1..]);
     println!("{} points handed out, {} calls not asked of a side", t.points, t.not_asked);
+    println!(
+        "in time order, no run refused: {} calls beside the Rust; {} lists left that, and {} calls from there on were run beside the plain reading alone",
+        t.in_order, t.left, t.alone
+    );
+    println!(
+        "old samples: records {} into an interval with a later stamp, {} into a slot with a later interval; batches {} into one ring, \
+         {} over rings one of which would take them, {} over rings that all refuse",
+        t.old[0], t.old[1], t.old[2], t.old[3], t.old[4]
+    );
+    println!(
+        "passed over: {} writes by {} runs; {} of the runs made no write, {} were refused; {} stand in lists in which nobody else wrote",
+        t.passed[0], t.passed[1], t.passed[2], t.passed[3], t.passed[4]
+    );
     println!(
         "figures: of the panel {} shown, {} none, {} refused ({} with 17); for service {} given, {} none, {} refused; of all {} beside the Rust",
         t.panels[0],
@@ -314,10 +380,7 @@ fn main() {
         "third demand: {} queries checked; of {} schedules outside its supposition {} break it",
         t.demanded, t.outside, t.broken
     );
-    println!(
-        "the Rust went another way by hash order {} times, lost marks {} times",
-        t.by_hash_order, t.marks_lost
-    );
+    println!("the Rust went another way by hash order {} times", t.by_hash_order);
     println!(
         "seed {seed}: {} lists, {} calls, compared {} of the library and {} of the Rust, {found} differences, {:.1} s",
         t.lists,

@@ -1,10 +1,10 @@
-//! A second reading of document 01, with requests 2026-01 and 2026-02 of document 02 in the place
-//! of the sentences that they alter, and request 2026-04 beside them, in plain Rust: written from
-//! the documents alone, so that it can stand beside rondo and beside the proved library. Clear
+//! A second reading of document 01, with requests 2026-01, 2026-02 and 2026-05 of document 02 in the
+//! place of the sentences that they alter, and request 2026-04 beside them, in plain Rust: written
+//! from the documents alone, so that it can stand beside rondo and beside the proved library. Clear
 //! before fast.
 //!
-//! A refusal is its number in document 01's table, 17 that of request 2026-04. The image is a byte slice, the flags a
-//! record of 32 wrap flags beside it. No call looks past the image or past flag R - 1.
+//! A refusal is its number in document 01's table, 17 that of request 2026-04, 18 that of 2026-05. The image is a byte
+//! slice, the flags a record of 32 wrap flags beside it. No call looks past the image or past flag R - 1.
 
 use std::collections::BTreeSet;
 
@@ -32,6 +32,7 @@ pub const INVALID_TIER: u32 = 14;
 pub const INVALID_TIME_RANGE: u32 = 15;
 pub const NO_CONSOLIDATION_FUNCTION: u32 = 16;
 pub const OFF_PANEL: u32 = 17;
+pub const OLD_SAMPLE: u32 = 18;
 
 pub const HEADER: usize = 32;
 pub const ROW: usize = 64;
@@ -92,7 +93,7 @@ impl Row {
         64 + 4 * m + 8 * n + 8 * n * m
     }
 
-    fn place(&self) -> std::ops::Range<usize> {
+    pub fn place(&self) -> std::ops::Range<usize> {
         self.offset as usize..(self.offset + self.length) as usize
     }
 }
@@ -312,7 +313,7 @@ fn series(slab: &[u8]) -> usize {
     get32(slab, 20) as usize
 }
 
-fn cursor(slab: &[u8]) -> usize {
+pub fn cursor(slab: &[u8]) -> usize {
     get32(slab, 32) as usize
 }
 
@@ -320,16 +321,28 @@ fn stamp_at(slab: &[u8], slot: usize) -> usize {
     64 + 4 * series(slab) + 8 * slot
 }
 
-fn value_at(slab: &[u8], column: usize, slot: usize) -> usize {
+pub fn value_at(slab: &[u8], column: usize, slot: usize) -> usize {
     64 + 4 * series(slab) + 8 * slots(slab) + 8 * slots(slab) * column + 8 * slot
 }
 
-fn stamp(slab: &[u8], slot: usize) -> u64 {
+pub fn stamp(slab: &[u8], slot: usize) -> u64 {
     get64(slab, stamp_at(slab, slot))
 }
 
-fn write(slab: &mut [u8], flag: &mut bool, stamp: u64, values: &[(u32, u64)]) {
-    let slot = (stamp / get64(slab, 24) % slots(slab) as u64) as usize;
+pub fn slot_of(slab: &[u8], stamp: u64) -> usize {
+    (stamp / get64(slab, 24) % slots(slab) as u64) as usize
+}
+
+/// Whether a write at a stamp comes too late for a slab.
+pub type Old = fn(&[u8], u64) -> bool;
+
+/// By request 2026-05: its stamp is below the one its slot holds.
+pub fn is_old(slab: &[u8], at: u64) -> bool {
+    at < stamp(slab, slot_of(slab, at))
+}
+
+pub fn write(slab: &mut [u8], flag: &mut bool, stamp: u64, values: &[(u32, u64)]) {
+    let slot = slot_of(slab, stamp);
     let old = cursor(slab);
     if slot < old {
         *flag = true;
@@ -357,7 +370,7 @@ fn reading(slab: &[u8], wrapped: bool) -> Vec<usize> {
     }
 }
 
-fn newest(slab: &[u8]) -> Option<u64> {
+pub fn newest(slab: &[u8]) -> Option<u64> {
     Some(stamp(slab, cursor(slab))).filter(|&t| t != 0)
 }
 
@@ -374,40 +387,66 @@ fn handle_check(c: &Contents, schema: u32, column: u32) -> Result<usize, u32> {
     }
 }
 
-fn stamp_check(stamp: u64) -> Result<(), u32> {
+pub fn stamp_check(stamp: u64) -> Result<(), u32> {
     if stamp == 0 || stamp >= TOP { Err(INVALID_TIMESTAMP) } else { Ok(()) }
 }
 
-fn value_check(value: u64) -> Result<(), u32> {
+pub fn value_check(value: u64) -> Result<(), u32> {
     if infinite(value) { Err(INVALID_VALUE) } else { Ok(()) }
 }
 
-pub fn record(
+/// A sample is schema, column, value, stamp.
+pub type Sample = (u32, u32, u64, u64);
+
+/// 11, 12, 13, 18.
+pub fn record(image: &mut [u8], flags: &mut Flags, sample: Sample) -> Result<(), u32> {
+    record_by(image, flags, sample, is_old)
+}
+
+/// The same by any rule on what is old: others are faults, for the tests.
+pub fn record_by(
     image: &mut [u8],
     flags: &mut Flags,
-    schema: u32,
-    column: u32,
-    value: u64,
-    stamp: u64,
+    (schema, column, value, stamp): Sample,
+    old: Old,
 ) -> Result<(), u32> {
     let c = check(image)?;
     let row = handle_check(&c, schema, column)?;
     value_check(value)?;
     stamp_check(stamp)?;
-    write(&mut image[c.rows[row].place()], &mut flags[row], stamp, &[(column, value)]);
+    let slab = &mut image[c.rows[row].place()];
+    if old(slab, stamp) {
+        return Err(OLD_SAMPLE);
+    }
+    write(slab, &mut flags[row], stamp, &[(column, value)]);
     Ok(())
 }
 
 /// An entry is schema u32, column u32, value u64; a shorter last part is never read.
+pub fn entries_of(bytes: &[u8]) -> Vec<(u32, u32, u64)> {
+    bytes.chunks_exact(ENTRY).map(|e| (get32(e, 0), get32(e, 4), get64(e, 8))).collect()
+}
+
+/// 11, 13, 12, 18. Every ring that has entries is asked before any is written.
 pub fn record_batch(
     image: &mut [u8],
     flags: &mut Flags,
     entries: &[u8],
     stamp: u64,
 ) -> Result<(), u32> {
+    record_batch_by(image, flags, entries, stamp, is_old)
+}
+
+/// The same by any rule on what is old.
+pub fn record_batch_by(
+    image: &mut [u8],
+    flags: &mut Flags,
+    entries: &[u8],
+    stamp: u64,
+    old: Old,
+) -> Result<(), u32> {
     let c = check(image)?;
-    let entries: Vec<(u32, u32, u64)> =
-        entries.chunks_exact(ENTRY).map(|e| (get32(e, 0), get32(e, 4), get64(e, 8))).collect();
+    let entries = entries_of(entries);
     if entries.is_empty() {
         return Ok(());
     }
@@ -418,13 +457,20 @@ pub fn record_batch(
     for &(_, _, value) in &entries {
         value_check(value)?;
     }
+    // Each ring that has entries, with its own in order.
+    let mut own: Vec<(usize, Vec<(u32, u64)>)> = Vec::new();
     for schema in 0..c.schemas {
-        let own = entries.iter().filter(|e| e.0 == schema);
-        let values: Vec<(u32, u64)> = own.map(|e| (e.1, e.2)).collect();
+        let values: Vec<(u32, u64)> =
+            entries.iter().filter(|e| e.0 == schema).map(|e| (e.1, e.2)).collect();
         if !values.is_empty() {
-            let row = c.tiers(schema)[0];
-            write(&mut image[c.rows[row].place()], &mut flags[row], stamp, &values);
+            own.push((c.tiers(schema)[0], values));
         }
+    }
+    if own.iter().any(|&(row, _)| old(&image[c.rows[row].place()], stamp)) {
+        return Err(OLD_SAMPLE);
+    }
+    for (row, values) in own {
+        write(&mut image[c.rows[row].place()], &mut flags[row], stamp, &values);
     }
     Ok(())
 }
@@ -665,18 +711,52 @@ pub fn start_of(source: &Row, dest: &Row, oldest: Option<u64>) -> u64 {
     }
 }
 
-/// The number of writes, or the refusal that ended the call.
-pub fn consolidate(image: &mut [u8], flags: &mut Flags) -> Result<u64, u32> {
-    consolidate_by(image, flags, (start_of, apply))
+/// What a run writes: window, column, value.
+pub type Found = (u64, u32, u64);
+/// A run's write into a slab with its flag: whether it was made.
+pub type Put<'a> = &'a mut dyn FnMut(&mut [u8], &mut bool, Found) -> Result<bool, u32>;
+
+/// By request 2026-05: once 12 and 13 are tried, an old write is passed over.
+pub fn put_found(slab: &mut [u8], flag: &mut bool, found: Found) -> Result<bool, u32> {
+    let (window, column, value) = found;
+    value_check(value)?;
+    stamp_check(window)?;
+    if is_old(slab, window) {
+        return Ok(false);
+    }
+    write(slab, flag, window, &[(column, value)]);
+    Ok(true)
 }
 
-/// The same by any start and window's answer: others than these two are faults, for the tests.
-pub fn consolidate_by(image: &mut [u8], flags: &mut Flags, by: (Start, Apply)) -> Result<u64, u32> {
+/// The number of writes, or the refusal that ended the call.
+pub fn consolidate(image: &mut [u8], flags: &mut Flags) -> Result<u64, u32> {
+    consolidate_by(image, flags, (start_of, apply), &mut put_found)
+}
+
+/// How many writes a run of this image would make, and how many it would pass over.
+pub fn passed_over(image: &[u8], flags: &Flags) -> (u64, u64) {
+    let (mut made, mut passed) = (0, 0);
+    let mut put = |slab: &mut [u8], flag: &mut bool, found: Found| {
+        let done = put_found(slab, flag, found)?;
+        *(if done { &mut made } else { &mut passed }) += 1;
+        Ok(done)
+    };
+    let _ = consolidate_by(&mut image.to_vec(), &mut flags.clone(), (start_of, apply), &mut put);
+    (made, passed)
+}
+
+/// The same by any start, window's answer and write: others are faults, for the tests.
+pub fn consolidate_by(
+    image: &mut [u8],
+    flags: &mut Flags,
+    by: (Start, Apply),
+    put: Put,
+) -> Result<u64, u32> {
     let c = check(image)?;
     let mut writes = 0;
     for schema in 0..c.schemas {
         for pair in c.tiers(schema).windows(2) {
-            writes += consolidate_pair(image, flags, &c, (pair[0], pair[1]), by)?;
+            writes += consolidate_pair(image, flags, &c, (pair[0], pair[1]), by, &mut *put)?;
         }
     }
     Ok(writes)
@@ -688,6 +768,7 @@ fn consolidate_pair(
     c: &Contents,
     (from, to): (usize, usize),
     (start, apply): (Start, Apply),
+    put: Put,
 ) -> Result<u64, u32> {
     let (source, dest) = (c.rows[from], c.rows[to]);
     if dest.function == 0 {
@@ -722,15 +803,14 @@ fn consolidate_pair(
             }
         }
     }
-    for &(window, column, value) in &found {
-        value_check(value)?;
-        stamp_check(window)?;
-        write(&mut image[dest.place()], &mut flags[to], window, &[(column, value)]);
+    let mut writes = 0;
+    for found in found {
+        writes += put(&mut image[dest.place()], &mut flags[to], found)? as u64;
     }
-    if !found.is_empty() {
+    if writes > 0 {
         put64(image, HEADER + ROW * from + 48, newest);
     }
-    Ok(found.len() as u64)
+    Ok(writes)
 }
 
 #[cfg(test)]

@@ -1,5 +1,5 @@
-//! Document 01's marked cases A to L, the rows of requests 2026-01, 2026-02 and 2026-04, and the
-//! order of the refusals.
+//! Document 01's marked cases A to L, the rows of requests 2026-01, 2026-02, 2026-04 and 2026-05, and
+//! the order of the refusals.
 
 use super::*;
 use crate::calls::{Plan, Schema, Tier, entry_bytes};
@@ -26,7 +26,7 @@ fn made(plan: &Plan) -> (Vec<u8>, Flags) {
 }
 
 fn put(s: &mut (Vec<u8>, Flags), stamp: u64, value: f64) {
-    record(&mut s.0, &mut s.1, 0, 0, value.to_bits(), stamp).unwrap();
+    record(&mut s.0, &mut s.1, (0, 0, value.to_bits(), stamp)).unwrap();
 }
 
 fn read(s: &(Vec<u8>, Flags), tier: u32, range: (u64, u64)) -> Vec<(u64, f64)> {
@@ -104,7 +104,7 @@ fn f_coverage() {
 fn g_infinity_at_stamp_0() {
     let mut s = case_d();
     let before = s.clone();
-    assert_eq!(record(&mut s.0, &mut s.1, 0, 0, INF, 0), Err(INVALID_VALUE));
+    assert_eq!(record(&mut s.0, &mut s.1, (0, 0, INF, 0)), Err(INVALID_VALUE));
     let entries = entry_bytes(&[(0, 0, INF)], 0);
     assert_eq!(record_batch(&mut s.0, &mut s.1, &entries, 0), Err(INVALID_TIMESTAMP));
     assert_eq!(record_batch(&mut s.0, &mut s.1, &[], 0), Ok(()));
@@ -131,14 +131,14 @@ fn case_j(start: Start) -> ([Result<u64, u32>; 3], Vec<(u64, f64)>) {
     for (stamp, value) in [(30, 1.0), (40, 2.0), (50, 6.0)] {
         put(&mut s, stamp, value);
     }
-    let first = consolidate_by(&mut s.0, &mut s.1, (start, apply));
+    let first = consolidate_by(&mut s.0, &mut s.1, (start, apply), &mut put_found);
     assert_eq!(read(&s, 1, ALL), [(30, 3.0)]);
     put(&mut s, 60, 5.0);
-    let middle = consolidate_by(&mut s.0, &mut s.1, (start, apply));
+    let middle = consolidate_by(&mut s.0, &mut s.1, (start, apply), &mut put_found);
     assert_eq!(read(&s, 1, ALL), [(30, 3.0), (60, 5.0)]);
     put(&mut s, 70, 7.0);
     put(&mut s, 80, 9.0);
-    let last = consolidate_by(&mut s.0, &mut s.1, (start, apply));
+    let last = consolidate_by(&mut s.0, &mut s.1, (start, apply), &mut put_found);
     ([first, middle, last], read(&s, 1, ALL))
 }
 
@@ -389,6 +389,183 @@ fn refusals_of_figures() {
     assert_eq!(asked(&s, 0, 1, 0), (None, None));
 }
 
+/// Records into column 0 of schema 0, value 1: the refusals, 0 where one is accepted. What is refused
+/// leaves all.
+fn tried(s: &mut (Vec<u8>, Flags), stamps: &[u64]) -> Vec<u32> {
+    let each = stamps.iter().map(|&stamp| {
+        let before = s.clone();
+        let done = record(&mut s.0, &mut s.1, (0, 0, 1f64.to_bits(), stamp));
+        assert!(done.is_ok() || *s == before);
+        done.err().unwrap_or(0)
+    });
+    each.collect()
+}
+
+/// Request 2026-05: the later stamp wins, and on equal stamps the later call.
+#[test]
+fn the_later_stamp_wins() {
+    // 50 and 90 have one slot, as have 90 and 91.
+    let mut s = made(&plan_of(&[(10, 4, 0)]));
+    assert_eq!(tried(&mut s, &[50, 90, 50, 10, 90, 91, 90, 91]), [0, 0, 18, 18, 0, 0, 18, 0]);
+    // Below the newest: a fresh slot takes it, and so does one that holds an earlier stamp.
+    assert_eq!(tried(&mut s, &[60, 20, 64, 63, 100, 64]), [0, 18, 0, 18, 0, 18]);
+    // Equal stamps: the later call's value.
+    let mut s = made(&plan_of(&[(10, 4, 0)]));
+    put(&mut s, 50, 5.0);
+    put(&mut s, 90, 9.0);
+    put(&mut s, 90, 8.0);
+    assert_eq!(tried(&mut s, &[50]), [18]);
+    assert_eq!(read(&s, 0, ALL), [(90, 8.0)]);
+    // A slot has one stamp: it decides for a column without a value there, and for a NaN.
+    let one = 1f64.to_bits();
+    for (column, value) in [(1, one), (1, FRESH), (0, FRESH)] {
+        let before = s.clone();
+        assert_eq!(record(&mut s.0, &mut s.1, (0, column, value, 50)), Err(OLD_SAMPLE));
+        assert!(s == before);
+    }
+    // The ends: a slot's first sample, the greatest stamp, the one below it.
+    let mut s = made(&plan_of(&[(10, 1, 0)]));
+    assert_eq!(tried(&mut s, &[1, TOP - 1, TOP - 2, TOP - 1, 1]), [0, 0, 18, 0, 18]);
+}
+
+/// Request 2026-05: 11, 12, 13, 18 for one value, 11, 13, 12, 18 for a batch.
+#[test]
+fn old_samples_are_refused_last() {
+    let mut s = made(&plan_of(&[(10, 4, 0)]));
+    put(&mut s, 90, 9.0);
+    put(&mut s, 80, 8.0);
+    let before = s.clone();
+    for (sample, number) in [
+        ((0, 2, INF, 0), INVALID_HANDLE),
+        ((0, 0, INF, 0), INVALID_VALUE),
+        ((0, 0, INF, 50), INVALID_VALUE),
+        ((0, 0, 0, 0), INVALID_TIMESTAMP), // slot 0 holds 80
+        ((0, 0, 0, 50), OLD_SAMPLE),
+    ] {
+        assert_eq!(record(&mut s.0, &mut s.1, sample), Err(number));
+    }
+    for (entries, stamp, number) in [
+        (&[(0, 0, INF), (0, 2, 0)][..], 0, INVALID_HANDLE),
+        (&[(0, 0, INF)], 0, INVALID_TIMESTAMP),
+        (&[(0, 0, 0)], 0, INVALID_TIMESTAMP),
+        (&[(0, 0, 0), (0, 1, INF)], 50, INVALID_VALUE),
+        (&[(0, 0, 0), (0, 1, 0)], 50, OLD_SAMPLE),
+    ] {
+        let entries = entry_bytes(entries, 0);
+        assert_eq!(record_batch(&mut s.0, &mut s.1, &entries, stamp), Err(number));
+    }
+    assert!(s == before);
+    assert_eq!(record_batch(&mut s.0, &mut s.1, &[], 50), Ok(()));
+    assert!(s == before);
+}
+
+/// Request 2026-05: every ring that has entries is asked before any is written.
+#[test]
+fn a_batch_over_two_schemas() {
+    let ring = plan_of(&[(10, 4, 0)]).0.remove(0);
+    let mut s = made(&Plan(vec![ring.clone(), ring.clone(), ring]));
+    let one = 1f64.to_bits();
+    record(&mut s.0, &mut s.1, (1, 0, one, 90)).unwrap();
+    let before = s.clone();
+    for entries in [&[(0, 0, one), (1, 1, one)][..], &[(1, 1, one), (2, 0, one)], &[(1, 0, one)]] {
+        let entries = entry_bytes(entries, 0);
+        assert_eq!(record_batch(&mut s.0, &mut s.1, &entries, 50), Err(OLD_SAMPLE));
+        assert!(s == before);
+    }
+    // Rings without entries are not asked; equal stamps are taken, a column named twice too.
+    let entries = entry_bytes(&[(0, 0, one), (2, 1, one)], 0);
+    assert_eq!(record_batch(&mut s.0, &mut s.1, &entries, 50), Ok(()));
+    let entries = entry_bytes(&[(0, 0, one), (1, 0, one), (1, 0, 2f64.to_bits())], 0);
+    assert_eq!(record_batch(&mut s.0, &mut s.1, &entries, 90), Ok(()));
+    let found = query(&s.0, &s.1, 1, 0, 0, ALL).unwrap();
+    assert_eq!(found.reader.collect::<Vec<_>>(), [(90, 2f64.to_bits())]);
+}
+
+/// Mark of the first pair; cursor, flag and stamps of the second row's ring.
+fn coarse(s: &(Vec<u8>, Flags)) -> (u64, usize, bool, Vec<u64>) {
+    let slab = &s.0[check(&s.0).unwrap().rows[1].place()];
+    let stamps = (0..slots(slab)).map(|slot| stamp(slab, slot)).collect();
+    (get64(&s.0, HEADER + 48), cursor(slab), s.1[1], stamps)
+}
+
+/// The run before request 2026-05: what is old is written and counted.
+fn old_run(s: &mut (Vec<u8>, Flags)) -> Result<u64, u32> {
+    let mut put = |slab: &mut [u8], flag: &mut bool, (window, column, value): Found| {
+        value_check(value)?;
+        stamp_check(window)?;
+        write(slab, flag, window, &[(column, value)]);
+        Ok(true)
+    };
+    consolidate_by(&mut s.0, &mut s.1, (start_of, apply), &mut put)
+}
+
+/// Request 2026-05, after a refused run: 3 writes before, 2 now.
+#[test]
+fn three_writes_before_and_two_now() {
+    let mut s = made(&plan_of(&[(1, 6, 0), (2, 1, 1)]));
+    for (stamp, value) in [(2, 1.0), (4, 1.0), (6, 1.7e308), (7, 1.7e308)] {
+        put(&mut s, stamp, value);
+    }
+    assert_eq!(consolidate(&mut s.0, &mut s.1), Err(INVALID_VALUE));
+    assert_eq!(coarse(&s), (0, 0, false, vec![4]));
+    put(&mut s, 7, 0.0);
+    assert_eq!(passed_over(&s.0, &s.1), (2, 1));
+    assert_eq!(old_run(&mut s.clone()), Ok(3));
+    assert_eq!(consolidate(&mut s.0, &mut s.1), Ok(2));
+    assert_eq!(read(&s, 1, ALL), [(6, 0.85e308)]);
+    assert_eq!(coarse(&s), (7, 0, false, vec![6]));
+}
+
+/// Request 2026-05: what a passed-over write leaves. The coarser ring has three slots: windows 30 and
+/// 120 share slot 1, 150 has slot 2; the sum of window 180 is infinite.
+#[test]
+fn what_a_passed_over_write_leaves() {
+    let mut halted = made(&plan_of(&[(10, 20, 0), (30, 3, 1)]));
+    for (stamp, value) in [(30, 1.0), (120, 4.0), (150, 5.0), (180, f64::MAX), (190, f64::MAX)] {
+        put(&mut halted, stamp, value);
+    }
+    assert_eq!(consolidate(&mut halted.0, &mut halted.1), Err(INVALID_VALUE));
+    assert_eq!(coarse(&halted), (0, 2, false, vec![0, 120, 150]));
+    // Mended: 30 is passed over, 120 and 150 are equal and written again, 180 is new.
+    let mut s = halted.clone();
+    put(&mut s, 180, 6.0);
+    put(&mut s, 190, 8.0);
+    assert_eq!(consolidate(&mut s.0, &mut s.1), Ok(3));
+    assert_eq!(coarse(&s), (190, 0, true, vec![180, 120, 150]));
+    assert_eq!(read(&s, 1, ALL), [(120, 4.0), (150, 5.0), (180, 7.0)]);
+    // 30 alone: cursor, flag, mark and cells stay, and nothing is counted.
+    let mut s = halted.clone();
+    for stamp in [120, 150, 180, 190] {
+        put(&mut s, stamp, f64::NAN);
+    }
+    let before = s.clone();
+    assert_eq!(consolidate(&mut s.0, &mut s.1), Ok(0));
+    assert!(s == before);
+    assert_eq!(read(&s, 1, ALL), [(120, 4.0), (150, 5.0)]);
+}
+
+/// Request 2026-05: 12 and 13 are tried first; a passed-over write ends nothing.
+#[test]
+fn tried_before_it_is_passed_over() {
+    for (samples, done) in [
+        (&[(30, 1.0)][..], Ok(0)),
+        (&[(30, f64::MAX), (40, f64::MAX)], Err(INVALID_VALUE)),
+        (&[(10, 1.0)], Err(INVALID_TIMESTAMP)),
+        (&[(90, 1.0)], Ok(1)),
+        (&[(30, 1.0), (90, 2.0)], Ok(1)),
+        (&[(30, 1.0), (120, 2.0)], Ok(1)),
+    ] {
+        // The coarser ring's one slot holds 90, by hand.
+        let mut s = made(&plan_of(&[(10, 20, 0), (30, 1, 1)]));
+        let slab = check(&s.0).unwrap().rows[1].offset as usize;
+        put64(&mut s.0, slab + 72, 90);
+        samples.iter().for_each(|&(stamp, value)| put(&mut s, stamp, value));
+        assert_eq!(consolidate(&mut s.0, &mut s.1), done, "{samples:?}");
+        let mark = if done == Ok(1) { samples[samples.len() - 1].0 } else { 0 };
+        assert_eq!(coarse(&s).0, mark, "{samples:?}");
+    }
+}
+
 #[test]
 fn sums_start_from_negative_zero() {
     let bits = |w| match w {
@@ -451,7 +628,7 @@ fn each_call_on_a_damaged_image() {
         let old = std::mem::replace(&mut s.0[at], byte);
         let before = s.clone();
         assert_eq!(open(&s.0, &mut s.1), Err(number));
-        assert_eq!(record(&mut s.0, &mut s.1, 9, 9, INF, 0), Err(number));
+        assert_eq!(record(&mut s.0, &mut s.1, (9, 9, INF, 0)), Err(number));
         assert_eq!(record_batch(&mut s.0, &mut s.1, &[], 0), Err(number));
         assert_eq!(query(&s.0, &s.1, 9, 9, 9, (1, 0)).err(), Some(number));
         assert_eq!(query_auto(&s.0, &s.1, 9, 9, (1, 0)).err(), Some(number));

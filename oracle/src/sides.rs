@@ -66,8 +66,7 @@ impl Library for Plain {
     }
 
     fn record(&self, image: &mut [u8], flags: &mut Flags, sample: (u32, u32, u64, u64)) -> u32 {
-        let (schema, column, value, stamp) = sample;
-        plain::record(image, flags, schema, column, value, stamp).err().unwrap_or(0)
+        plain::record(image, flags, sample).err().unwrap_or(0)
     }
 
     fn record_batch(&self, image: &mut [u8], flags: &mut Flags, entries: &[u8], stamp: u64) -> u32 {
