@@ -28,6 +28,10 @@ pub trait Side {
     /// Works out the wrap flags of the rings that are held. No file is opened.
     fn flags(&mut self);
     fn record(&mut self, column: u32, value: f64, stamp: u64);
+    /// A record that is refused, its slot holding a later stamp. The Rust takes it, and is not asked.
+    fn record_old(&mut self, _column: u32, _value: f64, _stamp: u64) {
+        unreachable!("ours alone");
+    }
     /// The entries of the batches to come: a value for each column of schema 0.
     fn entries(&mut self, series: u32);
     fn batch(&mut self, stamp: u64);

@@ -6,7 +6,7 @@
 //!   bench --side ours|rust        one side
 //!   bench --turns N [--idle]      N turns of a measure once, no timing, or what goes before them alone: for callgrind
 //!   bench --repetitions N         7 unless given
-//!   bench --list                  the measures: turns for callgrind of the Rust and of ours, what a turn counts for, name
+//!   bench --list                  the measures: turns for callgrind of the Rust (0: it is not asked) and of ours, what a turn counts for, name
 //!   bench --fill                  creation beside memset on the same slice: bytes a second
 mod calls;
 mod ours;
@@ -67,6 +67,8 @@ struct Measure {
     rust_turns: Option<u64>,
     per_turn: u64,
     counted: u64,
+    /// What the Rust has no answer to compare with.
+    ours_alone: bool,
     plan: Plan,
     setup: Step,
     /// Before a turn, not timed. Where there is one, each turn is timed by itself.
@@ -126,6 +128,7 @@ fn flags(name: &'static str, turns: u64, counted: u64, plan: Plan, fill: Step) -
         rust_turns: None,
         per_turn: 1,
         counted,
+        ours_alone: false,
         plan,
         setup: Box::new(move |side| {
             fill(side);
@@ -184,6 +187,7 @@ fn figure(name: &'static str, turns: u64, slots: u64, column: Column, ask: fn(&m
         rust_turns: Some(if slots > 100_000 { 3 } else { 200 }),
         per_turn: 1,
         counted: turns.min(2000),
+        ours_alone: false,
         plan: three_from(slots),
         setup: Box::new(move |side| fill_column(side, slots, column)),
         before: None,
@@ -224,6 +228,7 @@ fn run(name: &'static str, turns: u64, series: u32, slots: u64, new: u64) -> Mea
         rust_turns: None,
         per_turn: 1,
         counted: 2,
+        ours_alone: false,
         plan,
         setup: Box::new(setup),
         before: Some(Box::new(move |side, i| seconds(side, filled + new * i, new))),
@@ -256,7 +261,8 @@ fn all_falling(slots: u64, step: u64) -> Vec<u64> {
     (0..slots).map(|i| if i + 1 == slots { from + slots * step } else { from + (slots - i) * step }).map(|s| s * SECOND).collect()
 }
 
-/// A run over a whole ring of seconds with these stamps, the mark before all of them.
+/// A run over a whole ring of seconds with these stamps, the mark before all of them. Where the windows are more than the 1,440
+/// slots of minutes, there is one turn: a second would meet windows whose slots hold later ones, and pass over them.
 fn falls(name: &'static str, turns: u64, series: u32, slots: u64, stamps: Vec<u64>) -> Measure {
     let mut plan = three(series);
     plan.tiers[0].slots = slots;
@@ -274,6 +280,7 @@ fn falls(name: &'static str, turns: u64, series: u32, slots: u64, stamps: Vec<u6
         rust_turns: None,
         per_turn: 1,
         counted: 1,
+        ours_alone: false,
         plan,
         setup: Box::new(fill),
         before: Some(Box::new(move |side, _| side.set_mark(least))),
@@ -291,6 +298,7 @@ fn measures() -> Vec<Measure> {
         rust_turns: None,
         per_turn: 1,
         counted,
+        ours_alone: false,
         plan,
         setup: Box::new(|_| ()),
         before: None,
@@ -299,6 +307,21 @@ fn measures() -> Vec<Measure> {
     let record = |name, plan| {
         let turn = |side: &mut dyn Side, i: u64| side.record((i % 2) as u32, i as f64, at(i / 2));
         base(name, 1_000_000, 2000, plan, Box::new(turn))
+    };
+    // The ring of seconds is full of its second lap, and the samples are of the first.
+    let old = Measure {
+        ours_alone: true,
+        setup: Box::new(|side| {
+            side.entries(2);
+            seconds(side, 7200, 7200);
+        }),
+        ..base(
+            "record refused with 18, 3 rows",
+            1_000_000,
+            2000,
+            three(2),
+            Box::new(|side, i| side.record_old((i % 2) as u32, i as f64, at(i / 2 % 7200))),
+        )
     };
     let batch = |name, turns, series: u32| Measure {
         setup: Box::new(move |s| s.entries(series)),
@@ -364,6 +387,7 @@ fn measures() -> Vec<Measure> {
         record("record, 4 rows in 2 schemas", rings(2, 2)),
         record("record, 8 rows", rings(2, 4)),
         record("record, 32 rows", rings(8, 4)),
+        old,
         batch("batch of 2", 200_000, 2),
         batch("batch of 64", 50_000, 64),
         Measure { per_turn: 7200, unit: "a point", ..query("query, all of 7,200 points", 50, Box::new(whole)) },
@@ -407,7 +431,7 @@ fn measures() -> Vec<Measure> {
         falls("run, no fall, 36,000 slots", 3, 2, 36_000, lap(36_000, 3)),
         falls("run, one fall, 3,600 slots", 10, 2, 3600, one_fall(3600)),
         falls("run, one fall, 36,000 slots", 3, 2, 36_000, one_fall(36_000)),
-        falls("run, one fall, 100,000 slots", 3, 2, 100_000, one_fall(100_000)),
+        falls("run, one fall, 100,000 slots", 1, 2, 100_000, one_fall(100_000)),
         falls("run, one fall, 10^6 slots", 1, 2, 1_000_000, one_fall(1_000_000)),
         falls("run, every second sample missed, 36,000 slots", 3, 2, 36_000, half_missed(36_000)),
         falls("run, every second sample missed, 64 series", 1, 64, 36_000, half_missed(36_000)),
@@ -514,6 +538,7 @@ fn main() {
         }
     };
     let names = option("--side").map_or(vec!["rust", "ours"], |s| vec![if s == "ours" { "ours" } else { "rust" }]);
+    let one_side = option("--side").is_some();
     let only = option("--only");
     let chosen = measures().into_iter().filter(|m| only.is_none_or(|o| m.name == o));
     if let Some(turns) = option("--turns") {
@@ -522,7 +547,7 @@ fn main() {
             if args.iter().any(|a| a == "--idle") {
                 m.turn = Box::new(|_, _| ());
             }
-            for name in &names {
+            for name in names.iter().filter(|n| **n == "ours" || !m.ours_alone) {
                 repetition(&m, &mut *make(name), turns);
             }
         }
@@ -533,11 +558,12 @@ fn main() {
         return;
     }
     if args.iter().any(|a| a == "--list") {
-        let rust = |m: &Measure| m.rust_turns.map_or(m.counted, |turns| turns.min(m.counted));
+        let rust = |m: &Measure| if m.ours_alone { 0 } else { m.rust_turns.map_or(m.counted, |turns| turns.min(m.counted)) };
         chosen.for_each(|m| println!("{}\t{}\t{}\t{}", rust(&m), m.counted, m.per_turn, m.name));
         return;
     }
     for m in chosen {
+        let names: Vec<&str> = names.iter().copied().filter(|n| *n == "ours" || !m.ours_alone).collect();
         let mut sides: Vec<Box<dyn Side>> = names.iter().map(|n| make(n)).collect();
         let mut times: Vec<Vec<f64>> = vec![Vec::new(); sides.len()];
         // In turn, so that a busy moment of the machine meets both sides.
@@ -547,7 +573,7 @@ fn main() {
                 t.push(repetition(&m, &mut **side, turns));
             }
         }
-        print!("| {}, {} |", m.name, m.unit);
+        print!("| {}, {} |{}", m.name, m.unit, if m.ours_alone && !one_side { " none |" } else { "" });
         for t in &mut times {
             t.sort_by(f64::total_cmp);
             print!(" {} ({} .. {}) |", shown(t[t.len() / 2]), shown(t[0]), shown(t[t.len() - 1]));
@@ -558,6 +584,8 @@ fn main() {
                 _ if ratio < 0.001 => print!(" {ratio:.1e} |"),
                 _ => print!(" {ratio:.*} |", if ratio < 0.1 { 3 } else { 2 }),
             }
+        } else if m.ours_alone && !one_side {
+            print!(" none |");
         }
         println!();
     }

@@ -115,6 +115,12 @@ impl Side for Ours {
         assert_eq!(done, 0);
     }
 
+    fn record_old(&mut self, column: u32, value: f64, stamp: u64) {
+        let i = &mut self.image;
+        let done = unsafe { rondo_record(i.as_mut_ptr(), i.len(), &mut self.flags, 0, column, value.to_bits(), stamp) };
+        assert_eq!(done, 18);
+    }
+
     fn entries(&mut self, series: u32) {
         self.entries.clear();
         for c in 0..series {
