@@ -106,6 +106,17 @@ static void ask(void) {
            rondo_query(image, size, flags, 0, 0, 0, 5, 5, &answer));
 }
 
+/* Second 7199 has the slot of 14399, which holds the later stamp: it is refused, alone and in a batch. On equal stamps the later call wins. */
+static void come_late(void) {
+    uint8_t both[2 * RONDO_ENTRY_SIZE];
+    rondo_put_entry(both, 0, 0, rondo_bits(1));
+    rondo_put_entry(both + RONDO_ENTRY_SIZE, 0, 1, rondo_bits(14399));
+    printf("a lap late: %" PRIu32 ", in a batch %" PRIu32 "; the same second again: %" PRIu32 "\n",
+           rondo_record(image, size, &flags, 0, 0, rondo_bits(1), 7199 * SECOND),
+           rondo_record_batch(image, size, &flags, both, sizeof both, 7199 * SECOND),
+           rondo_record_batch(image, size, &flags, both, sizeof both, 14399 * SECOND));
+}
+
 /* The last minute's mean: a whole number for the panel, in full for service tools. Then a value that no panel shows. */
 static void figures(void) {
     const double beyond = 9007199254740994.0; /* 2^53 + 2 */
@@ -138,6 +149,7 @@ int main(void) {
     create();
     record();
     ask();
+    come_late();
     figures();
     open_again();
     free(image);

@@ -216,6 +216,16 @@ fn show_sixteen(store: &Store, mut answer: Answer) {
     println!("sixteen at a time: {n} points in {calls} calls, mean {:.6}", if n > 0 { sum / n as f64 } else { 0.0 });
 }
 
+/// Second 7199 has the slot of 14399, which holds the later stamp: it is refused, alone and in a batch. On equal stamps the later call wins.
+fn come_late(store: &mut Store) {
+    println!(
+        "a lap late: {}, in a batch {}; the same second again: {}",
+        store.record(0, 1.0, 7199 * SECOND).err().unwrap_or(0),
+        store.batch(&[1.0, 14399.0], 7199 * SECOND).err().unwrap_or(0),
+        store.batch(&[1.0, 14399.0], 14399 * SECOND).err().unwrap_or(0),
+    );
+}
+
 /// The last minute's mean: a whole number for the panel, in full for service tools. Then a value that no panel shows.
 fn figures(store: &mut Store) -> Result<(), u32> {
     let (shown, full) = (store.panel(1, 1)?, store.service(1, 1)?);
@@ -267,6 +277,7 @@ fn main() -> Result<(), u32> {
         store.query(0, 3, 5, 5).err().unwrap(),
         store.query(0, 0, 5, 5).err().unwrap(),
     );
+    come_late(&mut store);
     figures(&mut store)?;
     // the cursor stands in the last slot: none is above it, and the same points are read from slot 0 on
     let again = store.open()?;

@@ -26,10 +26,10 @@
  * What it asks of a machine (make check tries each of these):
  * - x86-64 with the System V calling convention, as on Linux; SSE2 and nothing newer.
  * - memset: the one symbol that librondo.a needs (nm -u).
- * - Code: 19,067 bytes with constants, and no data (size librondo.a; the build of 2026-11-17).
- * - Stack: at most RONDO_STACK_SIZE bytes a call, beside memset's own. That build takes 716, the return
+ * - Code: 19,146 bytes with constants, and no data (size librondo.a; the build of 2026-11-18).
+ * - Stack: at most RONDO_STACK_SIZE bytes a call, beside memset's own. That build takes 732, the return
  *   address among them: the deepest path of each call, added up from the disassembly (c/tests/stack.awk);
- *   544 is the most that the single-stepped calls took. Up to 4 of them lie below the stack pointer, as
+ *   560 is the most that the single-stepped calls took. Up to 4 of them lie below the stack pointer, as
  *   the convention allows: an interrupt on the same stack must leave the 128 bytes below it.
  * - Alignment: none is asked of images, plans and entries; numbers and structs have that of C.
  * - Floating point: averages and sums are computed in the mode that the caller has set. Round to nearest
@@ -38,10 +38,10 @@
  *
  * Calls cut short, as by a reset: nothing is proved of them. c/tests/step.c single-steps 63 records, 56
  * batches and 14 runs and looks at the image after each instruction that changed it. In that build:
- * - rondo_open answered 0 on each of the 694 images, 561 of them unfinished; no other answer occurred.
+ * - rondo_open answered 0 on each of the 687 images, 554 of them unfinished; no other answer occurred.
  *   Take the flags from it.
  * - After it the same call, made again, left every byte and reading as if it had not been cut short.
- * - Not made again, a slot may have its new stamp with the value that stood there before (219 images), and
+ * - Not made again, a slot may have its new stamp with the value that stood there before (212 images), and
  *   keeps it until it is written again; a batch or a run may be there in part. No other point was read.
  * - A new point may be read before older ones (239 images). Two seconds' further records later the order
  *   fell no more often than if the record or batch had been made whole, or not at all.
@@ -67,10 +67,10 @@ extern "C" {
 /* ---- versions and limits ---- */
 
 /* These calls. A call, an answer or a struct that changes for a caller raises MAJOR, one that is added MINOR. */
-#define RONDO_VERSION_MAJOR 1
-#define RONDO_VERSION_MINOR 1
+#define RONDO_VERSION_MAJOR 2
+#define RONDO_VERSION_MINOR 0
 #define RONDO_VERSION_PATCH 0
-#define RONDO_VERSION_STRING "1.1.0"
+#define RONDO_VERSION_STRING "2.0.0"
 
 /* The image's bytes: the number in an image's header. Others are refused with 1. */
 #define RONDO_IMAGE_VERSION 1
@@ -115,11 +115,12 @@ enum rondo_answer_number {
     RONDO_INVALID_TIER = 14,        /* no such tier */
     RONDO_INVALID_TIME_RANGE = 15,  /* start is not below end */
     RONDO_NO_CONSOLIDATION_FUNCTION = 16, /* a coarser tier has function 0 */
-    RONDO_OFF_PANEL = 17            /* rondo_panel: the value is beyond 2^53, either way, or infinite */
+    RONDO_OFF_PANEL = 17,           /* rondo_panel: the value is beyond 2^53, either way, or infinite */
+    RONDO_OLD_SAMPLE = 18           /* recording: the stamp is below the one that its slot holds */
 };
 
 /* How many answers there are, 0 among them. */
-#define RONDO_ANSWERS 18u
+#define RONDO_ANSWERS 19u
 
 /* An answer's name; "Unknown" for a number that is none. In the caller's code, not in the library. */
 static inline const char *rondo_refusal_name(uint32_t number) {
@@ -142,6 +143,7 @@ static inline const char *rondo_refusal_name(uint32_t number) {
         "InvalidTimeRange",
         "NoConsolidationFunction",
         "OffPanel",
+        "OldSample",
     };
     return number < RONDO_ANSWERS ? names[number] : "Unknown";
 }
@@ -167,6 +169,7 @@ static inline const char *rondo_refusal_words(uint32_t number) {
         "the range's start is not below its end",
         "a coarser tier has no function",
         "the last point's value is beyond 2^53, either way, or infinite",
+        "the stamp is below the one that its slot of the ring holds",
     };
     return number < RONDO_ANSWERS ? words[number] : "no refusal has this number";
 }
@@ -259,7 +262,19 @@ uint32_t rondo_open(const uint8_t *image, size_t image_len, uint32_t *flags);
 
 /*
  * Records a value in a series' finest ring. Changes one slot, the ring's cursor and the row's flag.
- * Refuses 11, 12, 13, in this order.
+ * Refuses 11, 12, 13, 18, in this order.
+ *
+ * Which sample supersedes which: a stamp's slot is (stamp / interval) mod slots, and a slot has one stamp
+ * for all series of the schema. The later stamp wins: one below the slot's is refused with 18, whichever
+ * series wrote that, and NaN too; on equal stamps the later call wins. The slot's stamp decides, not the
+ * ring's newest: a late sample is taken where its slot is empty or holds an earlier stamp. With interval
+ * 10 and 4 slots, after 50 and 90: 50 and 10 are refused, 90 and 60 are taken; after 91, 90 is refused.
+ *
+ * On 18 drop the sample and go on: the same call would be refused again. Send a backlog oldest first, so
+ * that its own samples do not refuse each other (c/examples/backlog.c); the coarser tiers get what lies in
+ * the window that the last run ended in, or later. A stamp that ran ahead, as from a clock not yet set,
+ * keeps its slot until samples reach it, and once a run has read it the coarser tiers get nothing until
+ * samples reach its window. One of 2^63 or more, which somebody else must have written, keeps it for good.
  */
 uint32_t rondo_record(uint8_t *image, size_t image_len, uint32_t *flags,
                       uint32_t schema, uint32_t column, uint64_t value, uint64_t stamp);
@@ -267,7 +282,10 @@ uint32_t rondo_record(uint8_t *image, size_t image_len, uint32_t *flags,
 /*
  * Records entries_len / RONDO_ENTRY_SIZE entries at one stamp, all or none; a shorter rest is not
  * read. The entries may be of several schemas: one call for all rings is the fast way to record.
- * No entries: accepted, nothing changes. Refuses 11 for any entry, then 13, then 12.
+ * No entries: accepted, nothing changes. Refuses 11 for any entry, then 13, then 12, then 18 where the
+ * slot of any entry's ring holds a later stamp. Nothing is stored then, not in the other rings either: a ring
+ * that shall take its values whatever the others hold needs a batch of its own. A schema without an entry
+ * is not asked.
  */
 uint32_t rondo_record_batch(uint8_t *image, size_t image_len, uint32_t *flags,
                             const uint8_t *entries, size_t entries_len, uint64_t stamp);
@@ -401,6 +419,10 @@ static inline size_t rondo_read_points(const uint8_t *image, size_t image_len,
  * new. So that no closed window is averaged over its last samples alone, let every ring but the
  * coarsest hold two of the coarsest intervals. Refuses 16, 10, 12, 13 by pair of tiers: what it did
  * before stays, *count is left.
+ *
+ * A window whose start is below the stamp that its slot holds is passed over, once 12 and 13 are tried:
+ * slot, cursor and flag stay, it is not counted and nothing is refused. Where a pair has no other window
+ * its mark stays too. What these calls wrote comes to that only after a run that was refused, or cut short.
  *
  * What it costs: every stamp of each ring but the coarsest is looked at, then the samples from the
  * start of the window that the last run ended in (all, if there was no run) are read, once for their

@@ -1,5 +1,5 @@
 /*
- * What include/rondo.h says of limits, early stamps, alignment, the floating-point mode and figures, tried on the library.
+ * What include/rondo.h says of limits, early stamps, stamps that are superseded, alignment, the floating-point mode and figures, tried on the library.
  * A line for each; ends with 1 if one does not hold.
  */
 #include <stdio.h>
@@ -82,6 +82,110 @@ static void try_early(void) {
     printf("machine: stamps from 1 s on with a coarsest interval of 4 s and 16 slots: runs refused with 13 up to %u s\n", (unsigned)refused);
 }
 
+/* Two schemas, a ring of four slots of 10 ns and two series each. */
+static size_t make_two(uint8_t *image, uint32_t *flags) {
+    static uint8_t plan[RONDO_PLAN_SIZE(2)];
+    uint64_t size = RONDO_PLAN_SIZE(2) + 2 * RONDO_RING_SIZE(4, 2);
+    rondo_put_plan(plan, 2, 2);
+    rondo_put_row(plan, 0, 0, 0, 10, 40, RONDO_NONE, 2, 7);
+    rondo_put_row(plan, 1, 1, 0, 10, 40, RONDO_NONE, 2, 8);
+    *flags = 0;
+    hold("create", rondo_create(plan, sizeof plan, image, size, flags) == 0);
+    return size;
+}
+
+#define INFINITE (UINT64_C(0x7ff) << 52)
+#define NO_VALUE (UINT64_C(0x7ff8) << 48) /* NaN */
+
+#define COUNT(array) (sizeof (array) / sizeof (array)[0])
+
+/* Records in schema 0, one after the other: 50, 90 and 10 have slot 1, 60 slot 2, 80 slot 0. */
+static const struct { uint32_t column; uint64_t value, stamp; uint32_t answer; } singles[] = {
+    { 0, 0, 50, 0 }, { 0, 0, 90, 0 }, { 0, 0, 50, 18 }, { 0, 0, 10, 18 }, { 1, 0, 50, 18 }, { 0, NO_VALUE, 50, 18 },
+    { 0, 0, 60, 0 }, { 0, 0, 90, 0 }, { 1, 0, 91, 0 }, { 0, 0, 90, 18 }, { 0, NO_VALUE, 91, 0 }, { 0, 0, 80, 0 },
+    { 2, INFINITE, 0, 11 }, { 0, INFINITE, 0, 12 }, { 0, INFINITE, 50, 12 }, { 0, 0, 0, 13 }, { 0, 0, 40, 18 }
+};
+
+/* Then batches of two entries: schema 1 holds 70, in slot 3, and 60. Of schema 0 alone 30 would be taken. */
+static const struct { uint32_t schemas[2]; uint64_t value, stamp; uint32_t answer; } batches[] = {
+    { { 1, 1 }, 0, 60, 0 }, { { 1, 1 }, 0, 70, 0 }, { { 0, 1 }, 0, 30, 18 }, { { 1, 0 }, 0, 30, 18 }, { { 0, 0 }, 0, 30, 0 },
+    { { 0, 1 }, 0, 50, 18 }, { { 0, 1 }, 0, 70, 0 }, { { 0, 2 }, INFINITE, 0, 11 }, { { 0, 1 }, INFINITE, 0, 13 },
+    { { 0, 1 }, INFINITE, 30, 12 }, { { 0, 1 }, 0, 30, 18 }
+};
+
+static void hold_row(const char *what, size_t row, int good) {
+    if (!good) printf("row %zu: ", row);
+    hold(what, good);
+}
+
+static void try_superseded(void) {
+    static uint8_t image[ROOM], before[ROOM];
+    uint32_t flags;
+    size_t size = make_two(image, &flags);
+    for (size_t i = 0; i < COUNT(singles); i++) {
+        uint32_t were = flags;
+        memcpy(before, image, size);
+        uint32_t answer = rondo_record(image, size, &flags, 0, singles[i].column, singles[i].value, singles[i].stamp);
+        hold_row("a record's answer, by its slot's stamp", i, answer == singles[i].answer);
+        hold_row("a refused record leaves all", i, !answer || (memcmp(image, before, size) == 0 && flags == were));
+    }
+    for (size_t i = 0; i < COUNT(batches); i++) {
+        uint8_t entries[2 * RONDO_ENTRY_SIZE];
+        uint32_t were = flags;
+        memcpy(before, image, size);
+        for (unsigned e = 0; e < 2; e++) rondo_put_entry(entries + e * RONDO_ENTRY_SIZE, batches[i].schemas[e], e, batches[i].value);
+        uint32_t answer = rondo_record_batch(image, size, &flags, entries, sizeof entries, batches[i].stamp);
+        hold_row("a batch's answer, by its rings' stamps", i, answer == batches[i].answer);
+        hold_row("a refused batch leaves all", i, !answer || (memcmp(image, before, size) == 0 && flags == were));
+    }
+    printf("machine: %zu records and %zu batches, taken or refused by the stamps of their slots\n", COUNT(singles), COUNT(batches));
+}
+
+/* The mark of a row. */
+static uint64_t mark_of(const uint8_t *image, unsigned row) {
+    const uint8_t *at = image + RONDO_PLAN_SIZE(row) + 48;
+    uint64_t mark = 0;
+    for (unsigned i = 8; i > 0; i--) mark = mark << 8 | at[i - 1];
+    return mark;
+}
+
+/*
+ * Means of 30 ns in three slots: window 30 and 120 share one. The run is refused at window 180, whose sum is INFINITE, and
+ * keeps 30, then 120 in its place, and 150, and no mark. Then all samples but the first are recorded again with this value, and
+ * a run passes window 30 over.
+ */
+static uint64_t passed_over(uint64_t again, uint64_t *mark, uint64_t *held) {
+    static uint8_t plan[RONDO_PLAN_SIZE(2)], image[ROOM];
+    static const uint64_t stamps[] = { 30, 120, 150, 180, 190 };
+    uint64_t size = RONDO_PLAN_SIZE(2) + RONDO_RING_SIZE(20, 1) + RONDO_RING_SIZE(3, 1), count = 77;
+    uint32_t flags = 0;
+    rondo_put_plan(plan, 1, 2);
+    rondo_put_row(plan, 0, 0, 0, 10, 200, RONDO_NONE, 1, 7);
+    rondo_put_row(plan, 1, 0, 1, 30, 90, RONDO_AVERAGE, 1, 7);
+    hold("create", rondo_create(plan, sizeof plan, image, size, &flags) == 0);
+    for (size_t i = 0; i < COUNT(stamps); i++)
+        hold("record", rondo_record(image, size, &flags, 0, 0, rondo_bits(i < 3 ? (double)stamps[i] : 1.7e308), stamps[i]) == 0);
+    hold("the run is refused", rondo_consolidate(image, size, &flags, &count) == RONDO_INVALID_VALUE && count == 77);
+    hold("its mark stays", mark_of(image, 0) == 0);
+    for (size_t i = 1; i < COUNT(stamps); i++) hold("record", rondo_record(image, size, &flags, 0, 0, again, stamps[i]) == 0);
+    hold("the run after it", rondo_consolidate(image, size, &flags, &count) == 0);
+    struct rondo_answer answer;
+    struct rondo_point point = { 0, 0 };
+    hold("query", rondo_query(image, size, flags, 0, 0, 1, 0, UINT64_MAX, &answer) == 0);
+    hold("point", rondo_next_point(image, size, &answer, &point) == 1);
+    *mark = mark_of(image, 0);
+    *held = point.stamp;
+    return count;
+}
+
+static void try_passed_over(void) {
+    uint64_t mark, held;
+    uint64_t written = passed_over(rondo_bits(1), &mark, &held);
+    hold("120, 150 and 180 are written and counted, 30 is not; the mark is the newest stamp", written == 3 && mark == 190 && held == 120);
+    hold("no write but one that is passed over: none is counted, the mark stays", passed_over(NO_VALUE, &mark, &held) == 0 && mark == 0 && held == 120);
+    printf("machine: after a refused run a window below its slot's stamp is passed over, %u written\n", (unsigned)written);
+}
+
 /* The same calls at every offset from a multiple of 16. */
 static void try_alignment(void) {
     static uint8_t plans[512], images[16][ROOM + 32], entries[64];
@@ -144,8 +248,6 @@ static uint32_t panel_after(double value, unsigned mode, uint32_t *shown, int64_
     return answer;
 }
 
-#define COUNT(array) (sizeof (array) / sizeof (array)[0])
-
 static const struct { double value; int64_t shown; } rows[] = {
     { -0.5, 0 }, { 1.5, 2 }, { -2.5, -2 }, { -0.0, 0 }, { 3e-320, 0 }, { 0.1, 0 }, { -0.9, -1 }, { 4503599627370495.5, 4503599627370496 },
     { 9007199254740992.0, 9007199254740992 }, { -9007199254740992.0, -9007199254740992 }
@@ -187,6 +289,8 @@ int main(void) {
     try_version();
     try_limits();
     try_early();
+    try_superseded();
+    try_passed_over();
     try_alignment();
     try_modes();
     try_figures();

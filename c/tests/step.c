@@ -303,12 +303,13 @@ int main(void) {
     lent->len = size;
     try_creations(&creation);
     for (uint64_t i = 0; i < 56; i++) {
-        struct call a = { 1, first + i * s, 0.1 * (double)i }, b = { 0, first + i * s + 1, 1e9 + (double)i }, c = { 2, a.stamp, 0 };
+        uint64_t now = first + i * s; /* the second of the two calls is a nanosecond later */
+        struct call a = { 1, now + !(i % 2), 0.1 * (double)i }, b = { 0, now + i % 2, 1e9 + (double)i }, c = { 2, now, 0 };
         try_call(i % 2 ? &batch : &record, i % 2 ? a : b);
         try_call(i % 2 ? &record : &batch, i % 2 ? b : a);
         if (i % 8 == 7 || i % 8 == 4) try_call(&run, c);
         if (i % 8 == 7) {
-            b.stamp -= 3 * s; /* late */
+            b.stamp -= 3 * s; /* late: its slot has this stamp already, so it is taken */
             try_call(&record, b);
         }
     }

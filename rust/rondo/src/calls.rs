@@ -68,7 +68,7 @@ mod raw {
     }
 }
 
-/// A number as the library answers it. No other number than 0 to 17 is ever answered: that is proved of it.
+/// A number as the library answers it. No other number than 0 to 18 is ever answered: that is proved of it.
 fn accepted(number: u32) -> Result<(), Refusal> {
     match (number, Refusal::from_number(number)) {
         (0, _) => Ok(()),

@@ -56,11 +56,14 @@ pub enum Refusal {
     NoConsolidationFunction = 16,
     /// The last point's value is beyond ±2^53, or infinite: [`Store::panel`](crate::Store::panel) has no number for it.
     OffPanel = 17,
+    /// The stamp is below the one that its slot of the ring holds: the later stamp wins
+    /// ([`Store::record`](crate::Store::record)).
+    OldSample = 18,
 }
 
 impl Refusal {
     /// All refusals, by number.
-    pub const ALL: [Refusal; 17] = [
+    pub const ALL: [Refusal; 18] = [
         Refusal::BadImage,
         Refusal::NoTiers,
         Refusal::InvalidMaxSeries,
@@ -78,9 +81,10 @@ impl Refusal {
         Refusal::InvalidTimeRange,
         Refusal::NoConsolidationFunction,
         Refusal::OffPanel,
+        Refusal::OldSample,
     ];
 
-    /// Its number, 1 to 17, as in the header for C.
+    /// Its number, 1 to 18, as in the header for C.
     pub const fn number(self) -> u32 {
         self as u32
     }
@@ -92,7 +96,7 @@ impl Refusal {
     ///
     /// assert_eq!(Refusal::from_number(15), Some(Refusal::InvalidTimeRange));
     /// assert_eq!(Refusal::from_number(0), None);
-    /// assert_eq!(Refusal::from_number(18), None);
+    /// assert_eq!(Refusal::from_number(19), None);
     /// ```
     pub const fn from_number(number: u32) -> Option<Refusal> {
         if number >= 1 && number as usize <= Refusal::ALL.len() { Some(Refusal::ALL[number as usize - 1]) } else { None }
@@ -118,6 +122,7 @@ impl Refusal {
             Refusal::InvalidTimeRange => "InvalidTimeRange",
             Refusal::NoConsolidationFunction => "NoConsolidationFunction",
             Refusal::OffPanel => "OffPanel",
+            Refusal::OldSample => "OldSample",
         }
     }
 
@@ -145,6 +150,7 @@ impl Refusal {
             Refusal::InvalidTimeRange => "the range's start is not below its end",
             Refusal::NoConsolidationFunction => "a coarser tier has no function",
             Refusal::OffPanel => "the last point's value is beyond 2^53, either way, or infinite",
+            Refusal::OldSample => "the stamp is below the one that its slot of the ring holds",
         }
     }
 }

@@ -145,8 +145,14 @@ impl<'a> Store<'a> {
         View::resume(self.image, self.flags)
     }
 
-    /// Records a value in a series' finest tier. The slot is the stamp's, `stamp / interval` modulo slots; what stood there is
-    /// overwritten. NaN is stored, and read as no value.
+    /// Records a value in a series' finest tier. The slot is the stamp's, `stamp / interval` modulo slots. NaN is stored, and
+    /// read as no value.
+    ///
+    /// A slot has one stamp for all series of the schema, and the later stamp wins: one below the slot's is refused with
+    /// [`Refusal::OldSample`], on equal stamps the later call wins. The slot's stamp decides, not the tier's newest: a late
+    /// sample is taken where its slot is empty or holds an earlier stamp. Record a backlog oldest first, and drop what is refused
+    /// so. A stamp that ran ahead keeps its slot until samples reach it, and once a run has read it the coarser tiers get
+    /// nothing until samples reach its window.
     ///
     /// ```
     /// # use rondo::{Plan, Refusal, SeriesHandle, Store, TierConfig};
@@ -155,13 +161,19 @@ impl<'a> Store<'a> {
     /// # let mut store = Store::create(&plan, &mut image)?;
     /// store.record(SeriesHandle::new(0, 0), 1.5, 20)?;
     /// assert_eq!(store.record(SeriesHandle::new(0, 1), 1.5, 20), Err(Refusal::InvalidHandle));
+    ///
+    /// // four slots of 10 ns: 60 has the slot of 20
+    /// store.record(SeriesHandle::new(0, 0), 2.5, 60)?;
+    /// assert_eq!(store.record(SeriesHandle::new(0, 0), 1.5, 20), Err(Refusal::OldSample));
+    /// store.record(SeriesHandle::new(0, 0), 3.5, 60)?; // the same stamp again
+    /// store.record(SeriesHandle::new(0, 0), 4.5, 30)?; // late, in a slot of its own
     /// # Ok::<(), Refusal>(())
     /// ```
     ///
     /// # Errors
     ///
-    /// Those of [`Store::open`], then [`Refusal::InvalidHandle`], [`Refusal::InvalidValue`], [`Refusal::InvalidTimestamp`], in
-    /// this order. Nothing is changed then.
+    /// Those of [`Store::open`], then [`Refusal::InvalidHandle`], [`Refusal::InvalidValue`], [`Refusal::InvalidTimestamp`],
+    /// [`Refusal::OldSample`], in this order. Nothing is changed then.
     pub fn record(&mut self, handle: SeriesHandle, value: f64, timestamp_ns: u64) -> Result<(), Refusal> {
         calls::record(self.image, &mut self.flags, Entry { handle, value }, timestamp_ns)
     }
@@ -183,7 +195,9 @@ impl<'a> Store<'a> {
     /// # Errors
     ///
     /// Those of [`Store::open`]; then, if there are entries, [`Refusal::InvalidHandle`] for any entry,
-    /// [`Refusal::InvalidTimestamp`], [`Refusal::InvalidValue`] for any entry, in this order. Nothing is changed then.
+    /// [`Refusal::InvalidTimestamp`], [`Refusal::InvalidValue`] for any entry, [`Refusal::OldSample`] where the slot of any
+    /// entry's ring holds a later stamp, in this order. Nothing is changed then, not in the other schemas' rings either; a
+    /// schema without an entry is not asked.
     pub fn record_batch(&mut self, entries: &[Entry], timestamp_ns: u64) -> Result<(), Refusal> {
         calls::record_batch(self.image, &mut self.flags, entries, timestamp_ns)
     }
@@ -292,6 +306,10 @@ impl<'a> Store<'a> {
     /// that the last run ended in is read again from its start, over the samples that the finer ring still has, and is counted
     /// again, even where nothing is new: run it at least once in each coarsest interval, and let every ring but the coarsest
     /// hold two of those.
+    ///
+    /// A window that starts below the stamp that its slot holds is passed over: it is neither written nor counted, and nothing
+    /// is refused. In an image that this crate wrote that is so only after a run that was refused, or cut
+    /// short.
     ///
     /// It looks at every stamp of each ring but the coarsest. An image that came from elsewhere may take long, as many passes
     /// over a ring as it has slots: don't run one that you don't trust where nothing may wait.

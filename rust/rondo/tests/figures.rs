@@ -185,7 +185,9 @@ fn as_a_query_has_it() {
     for k in 6..2000 {
         let value = if numbers.below(3) == 0 { f64::NAN } else { numbers.below(1000) as f64 / 8.0 - 60.0 };
         let column = numbers.below(2) as u32;
-        store.record(SeriesHandle::new(0, column), value, 10 * (k + numbers.below(9)) + numbers.below(10)).unwrap();
+        // in a ring of 12 slots, so that one in some is old
+        let answer = store.record(SeriesHandle::new(0, column), value, 10 * (k + numbers.below(9)) + numbers.below(10));
+        assert!(matches!(answer, Ok(()) | Err(Refusal::OldSample)));
         store.consolidate().unwrap();
         for (handle, tier) in [(FIRST, 0), (FIRST, 1), (OTHER, 0), (OTHER, 1)] {
             let answer = store.query(handle, tier, EVER.0, EVER.1).unwrap();

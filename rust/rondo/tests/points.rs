@@ -1,6 +1,6 @@
 //! The iterator over points, held against one point a call.
 
-use rondo::{ConsolidationFn, Plan, QueryResult, SeriesHandle, Store};
+use rondo::{ConsolidationFn, Plan, QueryResult, Refusal, SeriesHandle, Store};
 
 mod shared;
 use shared::{EVER, FIRST, Numbers, bytes_for, patterns, raw, tens_into_thirties, tier};
@@ -36,7 +36,7 @@ fn compare(store: &Store, column: u32, range: (u64, u64)) -> usize {
 #[test]
 fn as_one_point_a_call() {
     let mut numbers = Numbers(88172645463325252);
-    let (mut queries, mut points) = (0, 0);
+    let (mut queries, mut points, mut old) = (0, 0, 0);
     for slots in [1, 2, 3, 31, 32, 33, 63, 64, 65, 95, 96, 97, 200] {
         let plan = Plan::new().schema(3, 7, &[tier(10, 10 * slots, None)]);
         let mut image = bytes_for(&plan);
@@ -45,7 +45,9 @@ fn as_one_point_a_call() {
             for _ in 0..numbers.below(3 * slots) {
                 let (column, stamp) = (numbers.below(3) as u32, 1 + numbers.below(50 * slots));
                 let value = if numbers.below(5) == 0 { f64::NAN } else { numbers.below(1000) as f64 };
-                store.record(SeriesHandle::new(0, column), value, stamp).unwrap();
+                let answer = store.record(SeriesHandle::new(0, column), value, stamp);
+                assert!(matches!(answer, Ok(()) | Err(Refusal::OldSample)));
+                old += usize::from(answer.is_err());
             }
             // the flags as left, and the other ones
             let (image, flags) = store.into_parts();
@@ -60,8 +62,8 @@ fn as_one_point_a_call() {
             }
         }
     }
-    println!("{queries} queries, {points} points");
-    assert!(points > 10_000);
+    println!("{queries} queries, {points} points, {old} old samples refused");
+    assert!(points > 10_000 && old > 1000);
 }
 
 /// Two schemas, one of two columns and three tiers: the tier that covers best.

@@ -37,7 +37,7 @@ fn upper(name: &str) -> String {
 fn names_and_numbers_are_the_headers() {
     let (answers, functions): (Vec<_>, Vec<_>) = {
         let all = numbers();
-        (all[..18].to_vec(), all[18..].to_vec())
+        (all[..19].to_vec(), all[19..].to_vec())
     };
     assert_eq!(answers[0], ("ACCEPTED".to_string(), 0));
     for (refusal, (name, number)) in Refusal::ALL.into_iter().zip(&answers[1..]) {
@@ -57,7 +57,7 @@ fn each_has_a_sentence_of_its_own_and_is_an_error() {
     let mut words: Vec<String> = Refusal::ALL.iter().map(Refusal::to_string).collect();
     words.sort();
     words.dedup();
-    assert_eq!(words.len(), 17);
+    assert_eq!(words.len(), 18);
     let boxed: Box<dyn std::error::Error> = Refusal::NoTiers.into();
     assert_eq!(boxed.to_string(), "a schema has no tier");
     assert_eq!(format!("{:>22}|", Refusal::NoTiers), "  a schema has no tier|");
@@ -129,7 +129,7 @@ fn recordings_and_queries() {
     let plan = tens_into_thirties();
     let mut image = bytes_for(&plan);
     let mut store = Store::create(&plan, &mut image).unwrap();
-    store.record(FIRST, 1.0, 10).unwrap();
+    store.record(FIRST, 1.0, 130).unwrap(); // slot 1
     let before = (store.image().to_vec(), store.flags());
     for wrong in [SeriesHandle::new(1, 0), SeriesHandle::new(0, 1), SeriesHandle::new(u32::MAX, u32::MAX)] {
         assert_eq!(store.record(wrong, f64::INFINITY, 0), Err(Refusal::InvalidHandle));
@@ -145,6 +145,10 @@ fn recordings_and_queries() {
     }
     for stamp in [0, 1 << 63, u64::MAX] {
         assert_eq!(store.record(FIRST, 1.0, stamp), Err(Refusal::InvalidTimestamp));
+    }
+    for stamp in [10, 19] {
+        assert_eq!(store.record(FIRST, 1.0, stamp), Err(Refusal::OldSample));
+        assert_eq!(store.record_batch(&[Entry::new(FIRST, 1.0)], stamp), Err(Refusal::OldSample));
     }
     assert_eq!(store.query(FIRST, 2, 5, 5).unwrap_err(), Refusal::InvalidTier);
     assert_eq!(store.query(FIRST, 1, 5, 5).unwrap_err(), Refusal::InvalidTimeRange);

@@ -124,6 +124,19 @@ fn ask(store: &mut Store, out: &mut String) {
     .unwrap();
 }
 
+/// A second that shares its slot with a later one, alone and in a batch; then the later one again.
+fn come_late(store: &mut Store, out: &mut String) {
+    let both = [Entry::new(OFFSET, 1.0), Entry::new(OTHER, 14399.0)];
+    writeln!(
+        out,
+        "a lap late: {}, in a batch {}; the same second again: {}",
+        store.record(OFFSET, 1.0, 7199 * SECOND).unwrap_err().number(),
+        store.record_batch(&both, 7199 * SECOND).unwrap_err().number(),
+        store.record_batch(&both, 14399 * SECOND).err().map_or(0, Refusal::number),
+    )
+    .unwrap();
+}
+
 /// The last minute's mean as the panel shows it and in full; then a value that no panel shows.
 fn figures(store: &mut Store, out: &mut String) {
     let (shown, full) = (store.panel(OTHER, 1).unwrap(), store.service(OTHER, 1).unwrap());
@@ -153,6 +166,7 @@ fn the_same_lines() {
     let mut out = format!("image of {} bytes\n", image.len());
     let flags = record(Store::create(&plan, &mut image).unwrap(), &mut out);
     ask(&mut Store::resume(&mut image, flags), &mut out);
+    come_late(&mut Store::resume(&mut image, flags), &mut out);
     figures(&mut Store::resume(&mut image, flags), &mut out);
     let again = Store::open(&mut image).unwrap();
     writeln!(out, "flags {flags}, opened again {}", again.flags()).unwrap();

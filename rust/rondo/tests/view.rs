@@ -66,8 +66,9 @@ fn as_the_store() {
     let mut store = Store::create(&plan, &mut image).unwrap();
     let mut wrapped = 0;
     for k in 6..300 {
+        let stamp = 10 * k + numbers.below(10);
         for handle in series() {
-            store.record(handle, numbers.below(100) as f64, 10 * k + numbers.below(10)).unwrap();
+            store.record(handle, numbers.below(100) as f64, stamp).unwrap();
         }
         store.consolidate().unwrap();
         let view = store.view();
