@@ -37,11 +37,15 @@ pub enum Command {
         #[arg(value_name = "PLAN", required = true, num_args = 1..)]
         plan: Vec<String>,
     },
-    /// Records one sample, or those of standard input: all of them or none
+    /// Records one sample, or those of standard input in the order of their lines: all of them or none
     Record {
         /// The image file
         #[arg(value_name = "FILE")]
         file: PathBuf,
+        /// Leaves out samples that are older than what their slot holds (refusal 18), as in a backlog, and says how many;
+        /// without it one such sample refuses all
+        #[arg(long)]
+        skip_old: bool,
         #[command(flatten)]
         sample: Sample,
     },
@@ -50,6 +54,10 @@ pub enum Command {
         /// The image file
         #[arg(value_name = "FILE")]
         file: PathBuf,
+        /// Leaves out samples that are older than what their slot holds (refusal 18), and says how many; without it one such
+        /// sample refuses all
+        #[arg(long)]
+        skip_old: bool,
     },
     /// Brings the coarser tiers up to date
     Consolidate {

@@ -1,5 +1,6 @@
 //! import: samples in time order, with a run after each coarsest interval and at the end.
 
+use std::borrow::Cow;
 use std::fmt::Write;
 use std::io::{self, IsTerminal};
 use std::path::Path;
@@ -8,10 +9,10 @@ use rondo::{SeriesHandle, Store};
 
 use crate::failure::Done;
 use crate::input::{self, Sample};
-use crate::writing::{add_notes, open, run, store_sample};
+use crate::writing::{Old, add_notes, held, open, run, store_sample};
 use crate::{file, supposition, table, time};
 
-pub fn import(name: &Path, wait: u64) -> Done<String> {
+pub fn import(name: &Path, skip_old: bool, wait: u64) -> Done<String> {
     file::regular(name)?;
     let mut samples = input::standard(time::now())?;
     samples.sort_by_key(|sample| sample.stamp);
@@ -21,13 +22,24 @@ pub fn import(name: &Path, wait: u64) -> Done<String> {
     let newest = newest(&store);
     let mut notes = supposition::of_plan(store.image());
     notes.extend(supposition::of_runs(store.image(), &newest));
-    notes.extend(supposition::of_samples(store.image(), &newest, &samples));
-    let runs = in_order(name, &mut store, &samples, newest)?;
+    let mut old = Old::new(skip_old);
+    notes.extend(supposition::of_samples(store.image(), &newest, &taken(&store, &samples, &old)));
+    let runs = in_order(name, &mut store, &samples, newest, &mut old)?;
     locked.replace(&bytes)?;
     let mut report = String::new();
-    let _ = writeln!(report, "imported, samples: {}, runs: {runs}", samples.len());
+    let _ = writeln!(report, "imported, samples: {}, runs: {runs}", samples.len() - old.count);
+    old.add_to(&mut report);
     add_notes(&mut report, &notes);
     Ok(report)
+}
+
+/// The samples without those that will be left out. In time order none makes a later one old: the image as it stands decides.
+fn taken<'a>(store: &Store, samples: &'a [Sample], old: &Old) -> Cow<'a, [Sample]> {
+    if !old.skipped {
+        return samples.into();
+    }
+    let rows = table::rows(store.image());
+    samples.iter().filter(|sample| held(store.image(), &rows, sample).is_none()).copied().collect()
 }
 
 /// The newest stamp of each schema's finest tier.
@@ -37,7 +49,7 @@ fn newest(store: &Store) -> Vec<Option<u64>> {
 }
 
 /// Records the samples, and makes a run before each that begins a coarsest interval and at the end. Answers how many runs.
-fn in_order(name: &Path, store: &mut Store, samples: &[Sample], mut newest: Vec<Option<u64>>) -> Done<u64> {
+fn in_order(name: &Path, store: &mut Store, samples: &[Sample], mut newest: Vec<Option<u64>>, old: &mut Old) -> Done<u64> {
     let rows = table::rows(store.image());
     // a schema of one tier has none: there is nothing to consolidate
     let coarsest: Vec<Option<u64>> =
@@ -48,15 +60,18 @@ fn in_order(name: &Path, store: &mut Store, samples: &[Sample], mut newest: Vec<
         let begins = |sample: &Sample| {
             let schema = sample.schema as usize;
             let last = newest.get(schema).copied().flatten();
+            let is_left_out = || old.skipped && held(store.image(), &rows, sample).is_some();
             last.is_some_and(|last| coarsest[schema].is_some_and(|coarsest| last / coarsest != sample.stamp / coarsest))
+                && !is_left_out()
         };
         if tick.iter().any(begins) {
             run(name, store)?;
             runs += 1;
         }
         for sample in tick {
-            store_sample(name, store, sample)?;
-            newest[sample.schema as usize] = Some(sample.stamp);
+            if store_sample(name, store, sample, old)? {
+                newest[sample.schema as usize] = Some(sample.stamp);
+            }
             progress.step();
         }
     }

@@ -102,6 +102,12 @@ impl Sample {
         self.line = line;
         self
     }
+
+    /// Where it stood and what it is for.
+    pub fn place(&self) -> String {
+        let what = format!("schema {}, column {}, {}", self.schema, self.column, time::date(self.stamp));
+        if self.line == 0 { what } else { format!("line {} ({what})", self.line) }
+    }
 }
 
 /// Which field of a CSV record is which; none: schema and column are 0.

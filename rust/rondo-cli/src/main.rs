@@ -81,8 +81,8 @@ const ABOUT_START: &str = "Keeps image files";
 fn carry_out(cli: &Cli) -> Done<String> {
     match &cli.command {
         Command::Create { file, plan } => writing::create(file, plan),
-        Command::Record { file, sample } => writing::record(file, &sample.words(), cli.wait),
-        Command::Import { file } => import::import(file, cli.wait),
+        Command::Record { file, skip_old, sample } => writing::record(file, &sample.words(), *skip_old, cli.wait),
+        Command::Import { file, skip_old } => import::import(file, *skip_old, cli.wait),
         Command::Consolidate { file } => writing::consolidate(file, cli.wait),
         Command::Query { asked, csv, json } => reading::query(asked, Form::of(*csv, *json)),
         Command::Panel { series, csv, json } => figures::panel(series, Form::of(*csv, *json)),

@@ -61,7 +61,9 @@ impl Source<'_> {
     fn late(&self) -> Option<String> {
         let slot = (0..self.source.slots()).find(|slot| self.stamp(*slot) >= 1 << 63)?;
         let why = "the stamp is 2^63 ns or more, which a run does not take, though opening does";
-        Some(format!("slab of row {}, slot {slot}: {why}; it goes when its slot is written again", self.i))
+        let advice =
+            "nothing is later, so nothing replaces it: take the slot's line out of a `rondo dump`, and `rondo restore` that";
+        Some(format!("slab of row {}, slot {slot}: {why}; {advice}", self.i))
     }
 
     /// The slots of the run's range, in reading order.
@@ -151,7 +153,8 @@ mod tests {
             let value = [1.5e308, -1.5e308, f64::NAN, 1.0][below(seed, 4) as usize];
             let stamp = (from + i + below(seed, 4)) * 1_000_000_000;
             let handle = SeriesHandle::new(0, below(seed, 2) as u32);
-            store.record(handle, value, stamp.max(1)).unwrap();
+            let answer = store.record(handle, value, stamp.max(1));
+            assert!(matches!(answer, Ok(()) | Err(Refusal::OldSample)));
         }
     }
 

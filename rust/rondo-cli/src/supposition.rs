@@ -97,15 +97,11 @@ pub fn of_samples(image: &[u8], newest: &[Option<u64>], samples: &[Sample]) -> V
     faults.0.into_iter().map(|(what, (count, place))| format!("{what}: {count}, the first at {place}")).collect()
 }
 
-fn place(sample: &Sample) -> String {
-    format!("line {} (schema {}, column {}, {})", sample.line, sample.schema, sample.column, date(sample.stamp))
-}
-
 /// The tick that the samples must begin with.
 fn start(faults: &mut Faults, first: &Sample, newest: Option<u64>, finest: u64, coarsest: u64) -> u64 {
     match newest {
         Some(newest) if first.stamp < newest => {
-            faults.add("stamps that fall below what the image held", 1, || place(first));
+            faults.add("stamps that fall below what the image held", 1, || first.place());
             first.stamp - first.stamp % finest
         }
         // a tick that the image began may go on in another column
@@ -118,7 +114,7 @@ fn start(faults: &mut Faults, first: &Sample, newest: Option<u64>, finest: u64, 
         }
         None => {
             if !first.stamp.is_multiple_of(coarsest) {
-                faults.add("first samples that are not at a multiple of the coarsest interval", 1, || place(first));
+                faults.add("first samples that are not at a multiple of the coarsest interval", 1, || first.place());
             }
             first.stamp - first.stamp % finest
         }
@@ -131,12 +127,12 @@ fn ticks(faults: &mut Faults, samples: &[&Sample], begin: u64, interval: u64) {
     for sample in samples {
         let tick = sample.stamp - sample.stamp % interval;
         if tick != sample.stamp {
-            faults.add("samples between ticks", 1, || place(sample));
+            faults.add("samples between ticks", 1, || sample.place());
         }
         let fresh = Column { next: begin, missing: 0, first_missing: 0 };
         let column = columns.entry(sample.column).or_insert(fresh);
         if tick < column.next {
-            faults.add("samples more than one a tick", 1, || place(sample));
+            faults.add("samples more than one a tick", 1, || sample.place());
             continue;
         }
         column.skip_to(tick, interval);
@@ -165,8 +161,8 @@ impl Column {
 fn whole(faults: &mut Faults, sample: &Sample) {
     let limit = f64::from(1 << 30);
     if sample.value.fract() != 0.0 || sample.value.is_nan() {
-        faults.add("values that are not whole numbers", 1, || place(sample));
+        faults.add("values that are not whole numbers", 1, || sample.place());
     } else if sample.value.abs() > limit {
-        faults.add("values beyond 2^30", 1, || place(sample));
+        faults.add("values beyond 2^30", 1, || sample.place());
     }
 }

@@ -66,6 +66,11 @@ impl Row {
         u32_at(image, self.offset as usize + 32)
     }
 
+    /// The slot of a stamp.
+    pub fn slot_of(&self, stamp: u64) -> u64 {
+        stamp / self.interval % self.slots()
+    }
+
     /// Where the stamp of a slot stands.
     pub fn stamp_at(&self, slot: u64) -> usize {
         (self.offset + SLAB_HEADER as u64 + 4 * u64::from(self.series) + 8 * slot) as usize

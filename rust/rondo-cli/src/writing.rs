@@ -6,6 +6,7 @@ use rondo::{Plan, Refusal, SeriesHandle, Store, View};
 
 use crate::failure::{Done, Failure, refusal};
 use crate::input::{self, Sample};
+use crate::table::Row;
 use crate::{file, locate, planning, refused_run, supposition, table, time, value};
 
 pub fn create(name: &Path, words: &[String]) -> Done<String> {
@@ -48,17 +49,20 @@ pub fn open<'a>(name: &Path, bytes: &'a mut [u8]) -> Done<Store<'a>> {
     Ok(Store::resume(bytes, flags))
 }
 
-pub fn record(name: &Path, words: &[&str], wait: u64) -> Done<String> {
+pub fn record(name: &Path, words: &[&str], skip_old: bool, wait: u64) -> Done<String> {
     file::regular(name)?;
     let samples = samples(words)?;
     let mut locked = file::lock(name, wait)?;
     let mut bytes = locked.read()?;
     let mut store = open(name, &mut bytes)?;
+    let mut old = Old::new(skip_old);
     for sample in &samples {
-        store_sample(name, &mut store, sample)?;
+        store_sample(name, &mut store, sample, &mut old)?;
     }
     locked.replace(&bytes)?;
-    Ok(format!("recorded, samples: {}\n", samples.len()))
+    let mut report = format!("recorded, samples: {}\n", samples.len() - old.count);
+    old.add_to(&mut report);
+    Ok(report)
 }
 
 fn samples(words: &[&str]) -> Done<Vec<Sample>> {
@@ -69,14 +73,58 @@ fn samples(words: &[&str]) -> Done<Vec<Sample>> {
     Ok(vec![input::sample(words, now).map_err(Failure::usage)?])
 }
 
-/// Records a sample, or says why it is refused.
-pub fn store_sample(name: &Path, store: &mut Store, sample: &Sample) -> Done {
+/// Samples that are older than what their slot holds: refused, or left out and counted.
+pub struct Old {
+    pub skipped: bool,
+    pub count: usize,
+    first: String,
+}
+
+impl Old {
+    pub fn new(skipped: bool) -> Self {
+        Old { skipped, count: 0, first: String::new() }
+    }
+
+    fn leave_out(&mut self, sample: &Sample, held: u64) {
+        self.count += 1;
+        if self.count == 1 {
+            self.first = format!("{}, whose slot holds {}", sample.place(), time::date(held));
+        }
+    }
+
+    /// Adds what was left out to a report.
+    pub fn add_to(&self, report: &mut String) {
+        if self.count > 0 {
+            report.push_str(&format!(
+                "left out, older than what their slot holds: {}, the first at {}\n",
+                self.count, self.first
+            ));
+        }
+    }
+}
+
+/// The stamp that a sample's slot holds, where that is later than the sample's.
+pub fn held(image: &[u8], rows: &[Row], sample: &Sample) -> Option<u64> {
+    let finest = rows.iter().find(|row| row.schema == sample.schema)?;
+    Some(finest.stamp(image, finest.slot_of(sample.stamp))).filter(|held| *held > sample.stamp)
+}
+
+/// Records a sample, or leaves it out where it is old and that was asked for, or says why it is refused. Answers whether it is
+/// recorded.
+pub fn store_sample(name: &Path, store: &mut Store, sample: &Sample, old: &mut Old) -> Done<bool> {
     let handle = SeriesHandle::new(sample.schema, sample.column);
-    store.record(handle, sample.value, sample.stamp).map_err(|r| {
+    let later = |store: &Store| held(store.image(), &table::rows(store.image()), sample).unwrap_or(0);
+    let answer = store.record(handle, sample.value, sample.stamp);
+    if old.skipped && answer == Err(Refusal::OldSample) {
+        old.leave_out(sample, later(store));
+        return Ok(false);
+    }
+    answer.map(|()| true).map_err(|r| {
         let why = match r {
             Refusal::InvalidHandle => no_series(store.image(), handle),
             Refusal::InvalidValue => format!("the value is {}; record nan where there is none", value::text(sample.value)),
             Refusal::InvalidTimestamp => format!("the stamp is {}ns; stamps are above 0 and below 2^63 ns", sample.stamp),
+            Refusal::OldSample => superseded(sample, later(store)),
             other => locate::image(store.image(), other),
         };
         match sample.line {
@@ -84,6 +132,13 @@ pub fn store_sample(name: &Path, store: &mut Store, sample: &Sample) -> Done {
             line => refusal(r, &why).after(format!("line {line}")).and("nothing is stored"),
         }
     })
+}
+
+/// The stamp that a sample does not supersede, and what to do.
+fn superseded(sample: &Sample, held: u64) -> String {
+    let (this, that) = (time::date(sample.stamp), time::date(held));
+    let advice = if sample.line == 0 { "" } else { "; --skip-old leaves such lines out" };
+    format!("the sample at {this} is older than the one at {that} that its slot holds, and the later one stays{advice}")
 }
 
 /// Which series there are instead of one that is not there.

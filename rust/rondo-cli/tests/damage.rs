@@ -106,12 +106,20 @@ fn a_stamp_that_is_too_late() {
     // slot 3's stamp in the finest ring: opening takes it, a run does not
     damaged(&folder, &good, 160 + 64 + 8 + 8 * 3 + 7, &[0x80]);
     assert_eq!(folder.good("check damaged.img"), "good\n");
-    let why =
-        "the stamp is 2^63 ns or more, which a run does not take, though opening does; it goes when its slot is written again";
-    let said = format!("refusal 10, CorruptedSlab: slab of row 0, slot 3: {why}; the file is as it was");
+    let why = "the stamp is 2^63 ns or more, which a run does not take, though opening does; nothing is later, so nothing replaces it";
+    let advice = "take the slot's line out of a `rondo dump`, and `rondo restore` that; the file is as it was";
+    let said = format!("refusal 10, CorruptedSlab: slab of row 0, slot 3: {why}: {advice}");
     folder.bad(1, &said, "consolidate damaged.img");
-    folder.good("record damaged.img 0 0 63s 1");
-    folder.good("consolidate damaged.img");
+    let held = "1970-01-01T00:01:03Z is older than the one at 2262-04-11T23:47:16.854775808Z that its slot holds";
+    folder.bad(1, &format!("damaged.img: refusal 18, OldSample: the sample at {held}"), "record damaged.img 0 0 63s 1");
+    // what the words advise
+    let dump = folder.good("dump damaged.img");
+    let kept: Vec<&str> = dump.lines().filter(|line| !line.starts_with("3 9223372036854775808ns ")).collect();
+    assert_eq!(kept.len() + 1, dump.lines().count());
+    folder.good_with("restore mended.img", &(kept.join("\n") + "\n"));
+    assert!(folder.bytes("mended.img") == good);
+    folder.good("record mended.img 0 0 63s 1");
+    folder.good("consolidate mended.img");
     // in a last tier, here row 1, a run does not read it
     let schema = "series 1 tier 1s 9s tier 3s 9s average";
     folder.good(&format!("create two.img {schema} schema {schema}"));

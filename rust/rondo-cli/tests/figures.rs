@@ -134,9 +134,9 @@ fn order_of_refusals() {
     }
 }
 
-/// A sample in either column, half of them without a value.
-fn any(random: &mut Random) -> String {
-    let (column, second) = (random.below(2), 1 + random.below(30));
+/// A sample in either column, half of them without a value; its second is up to 12 after this one.
+fn any(random: &mut Random, second: u64) -> String {
+    let (column, second) = (random.below(2), 1 + second + random.below(12));
     let value = if random.below(2) == 0 { "nan".to_string() } else { format!("{}.25", random.below(99)) };
     format!("0 {column} {second}s {value}\n")
 }
@@ -148,8 +148,11 @@ fn as_a_query_prints() {
     folder.good("create a.img series 2 tier 1s 9s");
     let json = |words: String| serde_json::from_str::<serde_json::Value>(&folder.good(&words)).unwrap();
     let mut random = Random(7);
-    for _ in 0..60 {
-        folder.good_with("record a.img", &any(&mut random));
+    let mut recorded = 0;
+    for second in 0..60 {
+        // in a ring of nine slots some are old
+        let said = folder.good_with("record a.img --skip-old", &any(&mut random, second));
+        recorded += u64::from(said == "recorded, samples: 1\n");
         for column in [0, 1] {
             let (all, figure) =
                 (json(format!("query a.img 0 {column} 0 --json")), json(format!("service a.img 0 {column} 0 --json")));
@@ -164,4 +167,5 @@ fn as_a_query_prints() {
             assert_eq!(folder.good(&format!("panel a.img 0 {column} 0")), format!("{whole} ns\n"));
         }
     }
+    assert!((30..60).contains(&recorded), "{recorded}");
 }

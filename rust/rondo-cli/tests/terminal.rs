@@ -28,6 +28,7 @@ fn colours_and_progress() {
         return skip("there is no script");
     };
     assert!(shown.contains("\x1b[1m#"), "{shown}");
-    let told = on_a_terminal(&folder, "import a.img < lines").unwrap();
+    folder.good("create b.img series 1 tier 1s 2h tier 1min 1d average");
+    let told = on_a_terminal(&folder, "import b.img < lines").unwrap();
     assert!(told.contains("importing: ") && told.contains("imported, samples: 20000"), "{told}");
 }
