@@ -145,6 +145,11 @@ pub stamps-are : stampsOf 0 pairOf written ∷ stampsOf 1 pairOf written ∷ (fi
 unfolding Instance-defs pairOf entry written
 stamps-are = refl
 
+-- an old sample is refused, and leaves no stamp (request 2026-05): 10 after 40 in a ring of three slots, where both have slot 1; the list is in step
+pub old-leaves-none : stampsOf 0 (created gap) (rec 20 1 ∷ rec 30 2 ∷ rec 40 3 ∷ rec 10 4 ∷ rec 50 5 ∷ []) ≡ 20 ∷ 30 ∷ 40 ∷ 50 ∷ []
+unfolding Instance-defs
+old-leaves-none = refl
+
 -- case L's history meets them
 unfoldable pub caseL : History
 caseL = record {
