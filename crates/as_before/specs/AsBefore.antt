@@ -97,7 +97,7 @@ unfoldable pub passed_unless : ℕ → ℕ → ℕ
 passed_unless zero k = k
 passed_unless (suc n) k = 0
 
--- along model's `fillWindow`, `fill`, `pairBy`, `pairs` and `run`
+-- along model's `fill_window`, `fill`, `pair_by`, `pairs` and `run`
 unfoldable pub passed_window : Job → Filled → ℕ → ℕ → ℕ → ℕ
 passed_window q f w c zero = 0
 passed_window q f w c (suc j) =

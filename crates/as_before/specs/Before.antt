@@ -1,5 +1,5 @@
 -- The rules before request 2026-05: record, record_batch and consolidation without OldSample, a call and a list of calls. What says another thing than its
--- namesake in model: `recordCheck` and `batchCheck` end before 18, and `writeOn` passes over no write. All else is that text over these three; what does not
+-- namesake in model: `record_check` and `batch_check` end before 18, and `write_on` passes over no write. All else is that text over these three; what does not
 -- hang on them is model's. Assumes nothing.
 use Rattle.std.specs.Prelude.{ℕ, zero, suc, ◌-◌, Bool, true, false, not, List, [], ◌∷◌, eqb}
 use Rattle.std.specs.Float.{binary64}

@@ -1,4 +1,4 @@
--- Histories in time order behave as before request 2026-05, proved: `proof : AsBefore`; and `none-passed-over : NonePassedOver`, whatever the order. From
+-- Histories in time order behave as before request 2026-05, proved: `proof : AsBefore`; and `none_passed-over : NonePassedOver`, whatever the order. From
 -- creation on no ring is ahead of its cap, nor a destination of its mark. Assumes nothing.
 use Rattle.std.specs.Prelude.{ℕ, zero, suc, ◌+◌, ◌^◌, ◌≤◌, ◌<◌, ◌≡◌, true}
 use Rattle.std.proofs.Common.{arith, sym, ◌∙◌, subst}

@@ -10,7 +10,7 @@ ghost use Rattle.pair.specs.Parts.{run_of};
 ghost use Rattle.consolidate.specs.Parts.{fresh, run_done};
 
 // The answer, and the flags after the call.
-#[derive(Drop)]
+#[derive(Clone, Copy)]
 pub struct Consolidation {
     pub answer: model::Consolidated,
     pub flags: model::Flags,

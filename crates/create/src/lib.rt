@@ -7,7 +7,7 @@ ghost use Rattle.model.specs.Lent.{creation};
 ghost use Rattle.image.specs.Lent.{lent};
 
 // Creation's answer, and the flags as it leaves them.
-#[derive(Drop)]
+#[derive(Clone, Copy)]
 pub struct Created {
     pub outcome: model::Outcome,
     pub flags: model::Flags,

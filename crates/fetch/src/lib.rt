@@ -7,7 +7,7 @@ ghost use Rattle.reader.specs.Held.{Held};
 ghost use Rattle.fetch.specs.Fetch.{fetch_up_to, words};
 
 // How many points were stored, and the place after them.
-#[derive(Drop)]
+#[derive(Clone, Copy)]
 pub struct Fetched {
     pub count: usize,
     pub place: model::Place,

@@ -18,6 +18,7 @@ before-first n i e = rw e
 
 pub before-later : (n i : ℕ) → 0 < i → i - 1 ≡ slot_before n i
 unfolding slot_before
+before-later n Prim.Native.Nat.zero h = elim h [ ]
 before-later n (suc i) h = omega arith
 
 module _ (s : List ℕ) (c n i k : ℕ) where

@@ -42,6 +42,7 @@ module _ (q r h m : ℕ) (M : m ≡ h + h) (H : 0 < h) (R : r < m) where
   added Ordering.gt le gt eq is = div-at _ (suc q) m (r + (h - 1) + q % 2 - m) (rw suc-mul (omega (arith, gt tt))) (omega (arith, gt tt))
 
 half_of : (k : ℕ) → 1 ≤ k → 2 ^ k ≡ 2 ^ (k - 1) + 2 ^ (k - 1)
+half_of zero h = elim h [ ]
 half_of (suc k) h = two-pow-succ k ∙ ap (λ (x : ℕ). 2 ^ x + 2 ^ x) (sym (suc_less k))
   where
     suc_less : (k : ℕ) → suc k - 1 ≡ k
@@ -111,6 +112,7 @@ fuller x t p q = let l : 2 ^ 52 < 2 ^ 52 + t = omega arith in rw p (mul-lt-mul_o
 
 larger : (x t : ℕ) → 1077 ≤ x → 2 ^ 1127 < units_at x t
 unfolding units_at
+larger zero t l = elim l [ ]
 larger (suc x) t l =
     lt_of_lt_of_le (lit< {n = 2 ^ 52 * 2 ^ 1076} tt)
     (le_trans (mul-le-mul_left (2 ^ 52) (pow_mono {i = 1076} (omega arith))) (mul-le-mul_right (2 ^ x) (le-add_right (2 ^ 52) t)))
@@ -178,6 +180,7 @@ size_none n h l =
 
 units_normal : (x t : ℕ) → 1 ≤ x → units_at x t ≡ (2 ^ 52 + t) * 2 ^ (x - 1)
 unfolding units_at
+units_normal zero t h = elim h [ ]
 units_normal (suc x) t h = ap (λ (y : ℕ). (2 ^ 52 + t) * 2 ^ y) (less x)
   where
     less : (x : ℕ) → x ≡ suc x - 1

@@ -23,6 +23,7 @@ number (b ∷ bs) = bit_of b + 2 * number bs
 
 pub bit_at : (k x i : ℕ) → i < k → get_or (bits k x) i false ≡ eqb (x / 2 ^ i % 2) 1
 unfolding bits
+bit_at zero x i h = elim h [ ]
 bit_at (suc k) x zero h = rw (pow-zero, div-one)
 bit_at (suc k) x (suc i) h = rw (bit_at k (x / 2) i (omega arith), div-div-eq-div-mul, ← pow-succ')
 
@@ -55,6 +56,7 @@ bit_small false = omega arith
 
 pub number_fits : (bs : List Bool) (k : ℕ) → length bs ≤ k → number bs < 2 ^ k
 unfolding number
+number_fits (b ∷ bs) zero h = elim h [ ]
 number_fits [] k h = one-le-pow k 2 (omega arith)
 number_fits (b ∷ bs) (suc k) h = omega (arith, pow-suc 2 k, number_fits bs k (omega arith), bit_small b)
 

@@ -14,6 +14,7 @@ lent_at s x = record { image = s; flags = bits 32 x }
 -- a bit set by `|`, whether it was set or not
 pub bit_set : (k x i : ℕ) → i < k → bits k (bit_or x (2 ^ i)) ≡ set (bits k x) i true
 unfolding bits
+bit_set zero x i l = elim l [ ]
 bit_set (suc k) x zero l =
     let one : max (x % 2) 1 ≡ 1 = max_comm (x % 2) 1 ∙ max-eq_left (omega arith) in
     let v : bit_or x 1 ≡ x / 2 * 2 + 1 = omega (arith, or_step x 1, or_zero_r (x / 2), one) in

@@ -3,7 +3,7 @@ ghost use Rattle.std.specs.Prelude.{◌≡◌, true, false, ◌<◌, ◌≤◌, 
 ghost use Rattle.flag_bits.specs.Bits.{bits, bit_of, number};
 
 // The answer of a call, and the flags after it.
-#[derive(Drop)]
+#[derive(Clone, Copy)]
 pub struct Numbered {
     pub outcome: model::Outcome,
     pub flags: u32,

@@ -1,5 +1,5 @@
 // The checks of an image and of a plan, in document 01's order, each as one answer: `check_image` is what opening and every later call begins with.
-// Where it accepts, image_theory.specs.Good's `good-open` says what holds of the image: its rows, where its slabs stand, that each is sound.
+// Where it accepts, image_theory.specs.Good's `good_open` says what holds of the image: its rows, where its slabs stand, that each is sound.
 ghost use Rattle.std.specs.Prelude.{◌≡◌, true, ◌+◌, ◌*◌, ◌≤◌, length};
 ghost use Rattle.model.specs.Words.{outcome_no};
 ghost use Rattle.model.specs.Image.{tier_check, shape, layout_check, plan_check, image_length, placed, slabs_end, sound_all, open_check};
@@ -61,7 +61,7 @@ fn slabs_sound(s: &[u8], n: usize) -> bool
         let r = rows::row_at(s, i);
         let offset = r.offset as usize;
         let end = offset + (r.len as usize);
-        let one = slab::is_sound(&s[offset..end], r);
+        let one = slab_bytes::is_sound(&s[offset..end], r);
         good = good & one;
         i += 1;
     }

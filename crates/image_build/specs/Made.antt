@@ -13,7 +13,7 @@ use Rattle.laws.specs.Fresh.{fresh_of, length-fresh_of, length_slabs, length-row
 use Rattle.image_theory.specs.Rows.{length-rows_from}
 use Rattle.rows.specs.Rows.{rows_to, rows_all, rows_step, rows_end}
 use Rattle.layout.specs.Ends.{capped, ends_more}
-use Rattle.slab.specs.Fresh.{put-splice, Front, front_none, front_field, front_part}
+use Rattle.slab_bytes.specs.Fresh.{put-splice, Front, front_none, front_field, front_part}
 
 -- ---- a row
 

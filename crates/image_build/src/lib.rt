@@ -81,7 +81,7 @@ fn put_slabs(plan: &[u8], n: usize, image: &mut [u8])
         let slots = layout::row_slots(r);
         let len = layout::row_length(r);
         let end = at + (len as usize);
-        slab::fresh_slab(
+        slab_bytes::fresh_slab(
             &mut image[at..end],
             r.hash,
             slots,

@@ -67,7 +67,7 @@ fn head_good(s: &[u8]) -> bool
 }
 
 // What the rows of a schema share: their series, the same times 2^32, and their hash.
-#[derive(Drop)]
+#[derive(Clone, Copy)]
 pub struct Shared {
     series: u64,
     high: u64,
@@ -75,7 +75,7 @@ pub struct Shared {
 }
 
 // A row may stand where it does, and this is what it shares; or it may not.
-#[derive(Drop)]
+#[derive(Clone, Copy)]
 pub enum Step {
     Good(Shared),
     Bad,

@@ -1,4 +1,4 @@
--- An image in good order: `openCheck` passes, by its parts, both ways; then each slab lies behind the rows and within the image, no two meet, and each is
+-- An image in good order: `open_check` passes, by its parts, both ways; then each slab lies behind the rows and within the image, no two meet, and each is
 -- as long as its header says. And what keeps it so: header and rows stay, but for marks, and each slab stays sound. Every call but creation begins with
 -- that check. Assumes nothing.
 use Rattle.std.specs.Prelude.{ℕ, suc, ◌+◌, ◌^◌, ◌≤◌, ◌<◌, ◌≡◌, true, ◌&&◌, List, [], ◌∷◌, length, leb, eqb}

@@ -8,7 +8,7 @@ ghost use Rattle.model.specs.Lent.{first_row};
 ghost use Rattle.lookup.specs.Parts.{SlabAt, finest_of, with_flag};
 
 // Where a row's slab stands in the image, and its sizes.
-#[derive(Drop)]
+#[derive(Clone, Copy)]
 pub struct Slab {
     pub from: usize,
     pub to: usize,
@@ -16,7 +16,7 @@ pub struct Slab {
 }
 
 // The row of a handle's finest tier; none where the schema or the column is out of bounds.
-#[derive(Drop)]
+#[derive(Clone, Copy)]
 pub enum Finest {
     At(usize),
     Missing,

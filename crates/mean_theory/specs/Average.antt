@@ -1,7 +1,7 @@
 -- The average of 1 to 4,096 bounded values is bounded, so it can be averaged in turn, and within 1 / 4,096 of their exact mean: the sum of c values errs
 -- by at most (c - 1) * 2 ^ -12, so a c-th of it by at most 2 ^ -12 - 2 ^ -12 / c; the division adds at most 2 ^ -24, and that is at most 2 ^ -12 / c, since
 -- c is at most 4,096. So where each value is within e / n of an exact number, the average is within e / n + 1 / 4,096 of the mean of those
--- (`average-within`). Assumes nothing.
+-- (`average_within`). Assumes nothing.
 use Rattle.std.specs.Prelude.{◌≡◌, refl, Bool, List, [], ◌∷◌, ℕ, suc, ◌+◌, ◌*◌, ◌^◌, ◌≤◌, ◌<◌, pos, T, length, Float}
 use Rattle.std.proofs.Common.{sym, ap, le_trans, le_of_eq, lt_of_le_of_lt, mul_comm, mul-le-mul_right, zero-lt-suc, lt_irrefl, lit<, lit≤}
 use Rattle.std.proofs.Math.Bool.{true, false}
@@ -101,6 +101,8 @@ of_units x q e n h k =
 sums_near : (xs : List Float) (qs : List Frac) (e n : ℕ) → All2 (λ x q. Bounded x × Distance x q e n) xs qs
     → All Bounded xs × (length xs ≡ length qs) × Near (pos_sum xs) (neg_sum xs) one (exact_sum qs) (length xs * e) n
 unfolding pos_sum neg_sum exact_sum
+sums_near [] (q ∷ qs) e n h = elim h [ ]
+sums_near (x ∷ xs) [] e n h = elim h [ ]
 sums_near [] [] e n h = (tt, refl, (omega arith, omega arith))
 sums_near (x ∷ xs) (q ∷ qs) e n h =
     let r = sums_near xs qs e n h.1 in

@@ -1,5 +1,5 @@
 -- A value of tier k is bounded and within k / 4,096 of the exact mean that it stands for (`tier-within`); where every window is full, that is the mean
--- of all the whole offsets below it (`flat-within`), as the third demand asks. Each tier adds 1 / 4,096, by `average-within`. Assumes nothing.
+-- of all the whole offsets below it (`flat_within`), as the third demand asks. Each tier adds 1 / 4,096, by `average_within`. Assumes nothing.
 use Rattle.std.specs.Prelude.{◌≡◌, refl, Bool, true, false, ℕ, zero, suc, ◌+◌, ◌*◌, ◌/◌, ◌<◌, length, Float}
 use Rattle.std.proofs.Common.{ap, mul-le-mul_right, mul-pos, lt_irrefl, arith, lit<, length-append}
 use mathlib.Core.List.{List, [], ◌∷◌, flatten, map}
@@ -11,10 +11,14 @@ use Rattle.mean_theory.specs.Wholes.{whole-num, append_sums}
 use Rattle.mean_theory.specs.Average.{average_within}
 
 each : {B : Type 0} (R S : Float → B → Type 0) → ((x : Float) (b : B) → R x b → S x b) → (xs : List Float) (bs : List B) → All2 R xs bs → All2 S xs bs
+each {B = B} R S f [] (b ∷ bs) h = elim h [ ]
+each {B = B} R S f (x ∷ xs) [] h = elim h [ ]
 each R S f [] [] h = tt
 each R S f (x ∷ xs) (b ∷ bs) h = (f x b h.0, each R S f xs bs h.1)
 
 each_map : {B C : Type 0} (S : Float → C → Type 0) (f : B → C) (xs : List Float) (bs : List B) → All2 (λ x b. S x (f b)) xs bs → All2 S xs (map f bs)
+each_map {B = B} {C = C} S f [] (b ∷ bs) h = elim h [ ]
+each_map {B = B} {C = C} S f (x ∷ xs) [] h = elim h [ ]
 each_map S f [] [] h = tt
 each_map S f (x ∷ xs) (b ∷ bs) h = (h.0, each_map S f xs bs h.1)
 
@@ -57,6 +61,8 @@ flatten_sum : (d : ℕ) (ys : List Float) (zss : List (List Float)) → 0 < d �
     → (length (flatten zss) ≡ d * length zss) × (length ys ≡ length zss)
     × Same (record { above = aboves (flatten zss); below = belows (flatten zss); over = d }) (exact_sum (map whole_mean zss))
 unfolding flatten exact_sum aboves belows
+flatten_sum d [] (ws ∷ zss) D h = elim h [ ]
+flatten_sum d (y ∷ ys) [] D h = elim h [ ]
 flatten_sum d [] [] D h = (omega arith, refl, (D, lit< tt, omega arith))
 flatten_sum d (y ∷ ys) (ws ∷ zss) D h =
     let r = flatten_sum d ys zss D h.1 in
@@ -85,6 +91,7 @@ abbrev Part : ℕ → ℕ → Float → List Float → Type 0
 Part k d y ws = Tier k y (whole_mean ws) × (length ws ≡ d)
 
 part_pos : (k d : ℕ) (ys : List Float) (zss : List (List Float)) → 0 < length ys → All2 (Part k d) ys zss → 0 < d
+part_pos k d (y ∷ ys) [] c h = elim h [ ]
 part_pos k d [] zss c h = absurd (lt_irrefl 0 c)
 part_pos k d (y ∷ ys) (ws ∷ zss) c h = rw h.0.1 at (tier-within k y (whole_mean ws) h.0.0).1
 

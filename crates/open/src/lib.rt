@@ -10,7 +10,7 @@ ghost use Rattle.rows.specs.Rows.{rows_to};
 ghost use Rattle.image.specs.Lent.{lent};
 
 // Opening's answer, and the flags as it leaves them.
-#[derive(Drop)]
+#[derive(Clone, Copy)]
 pub struct Opened {
     pub outcome: model::Outcome,
     pub flags: model::Flags,

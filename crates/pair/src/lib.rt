@@ -8,7 +8,7 @@ ghost use Rattle.model.specs.Consolidate.{stamps_below, pair, pair_with};
 ghost use Rattle.pair.specs.Parts.{run_of, PairAt, Adjacent, marked_if};
 
 // A run so far: the flags, how many writes, and how it ended.
-#[derive(Drop)]
+#[derive(Clone, Copy)]
 pub struct Progress {
     pub flags: model::Flags,
     pub count: u64,

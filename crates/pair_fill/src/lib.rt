@@ -7,7 +7,7 @@ ghost use Rattle.model.specs.Consolidate.{write_answer, fill_window};
 ghost use Rattle.pair_fill.specs.Parts.{Lies, Covers, Keeps, source_in, pair_job, filled_in};
 
 // A pair: where the source stands in the image and what is read of it, and the destination.
-#[derive(Drop)]
+#[derive(Clone, Copy)]
 pub struct Pair {
     pub from: usize,
     pub to: usize,

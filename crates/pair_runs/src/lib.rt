@@ -9,7 +9,7 @@ ghost use Rattle.window_runs.specs.Rest.{Rest};
 ghost use Rattle.pair_runs.specs.Parts.{all_filled, in_part};
 
 // A pair filled, and in how many strands.
-#[derive(Drop)]
+#[derive(Clone, Copy)]
 pub struct Passed {
     pub filling: window_write::Filling,
     pub strands: u64,

@@ -9,7 +9,7 @@ ghost use Rattle.flag_bits.specs.One.{lent_at};
 ghost use Rattle.query.specs.Sought.{SoughtIs};
 
 // The row that a query reads. Or why it is refused.
-#[derive(Drop)]
+#[derive(Clone, Copy)]
 pub enum Sought {
     Row(usize),
     Refused(model::Refusal),

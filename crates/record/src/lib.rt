@@ -11,7 +11,7 @@ ghost use Rattle.record.specs.Done.{RecordDone};
 ghost use Rattle.record.specs.Ready.{Readied, RowWritten};
 
 // The answer, and the flags after the call.
-#[derive(Drop)]
+#[derive(Clone, Copy)]
 pub struct Recorded {
     pub outcome: model::Outcome,
     pub flags: model::Flags,
@@ -38,7 +38,7 @@ pub fn store(
 }
 
 // Where a value goes: the row of its ring. Or why it is refused.
-#[derive(Drop)]
+#[derive(Clone, Copy)]
 pub enum Target {
     Row(usize),
     Refused(model::Refusal),

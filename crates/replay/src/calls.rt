@@ -2,7 +2,7 @@
 use crate::stored;
 
 // The flags that a call left, and whether its answer is unlike the stored one.
-#[derive(Drop)]
+#[derive(Clone, Copy)]
 pub struct Done {
     pub flags: model::Flags,
     pub unlike: bool,

@@ -4,7 +4,7 @@ mod calls;
 mod stored;
 
 // Calls and differences, of the group and of all.
-#[derive(Drop)]
+#[derive(Clone, Copy)]
 struct Tally {
     calls: u64,
     unlike: u64,
@@ -69,7 +69,7 @@ fn end_group(item: &[u8], t: Tally) -> Tally {
 }
 
 // Where the list stands.
-#[derive(Drop)]
+#[derive(Clone, Copy)]
 struct State {
     flags: model::Flags,
     tally: Tally,

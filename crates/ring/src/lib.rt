@@ -7,7 +7,7 @@ ghost use Rattle.ring_theory.specs.Sound.{Sound};
 ghost use Rattle.ring.specs.Parts.{Sized, ring_of};
 
 // The sizes of a slab: its slots, its series, its interval.
-#[derive(Drop)]
+#[derive(Clone, Copy)]
 pub struct Sizes {
     pub slots: usize,
     pub series: usize,

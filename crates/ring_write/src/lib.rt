@@ -9,7 +9,7 @@ ghost use Rattle.ring.specs.Parts.{Sized, ring_of, one};
 ghost use Rattle.ring_write.specs.Stored.{Stamp, Columns};
 
 // The slot that a stamp was stored in, and the flag after the write.
-#[derive(Drop)]
+#[derive(Clone, Copy)]
 struct Stamped {
     slot: usize,
     wrapped: bool,

@@ -7,7 +7,7 @@ ghost use Rattle.rows.specs.Rows.{rows_to, good_rows};
 ghost use Rattle.rows.specs.Checks.{Checks, checked_no};
 
 // A row that was checked: the row, or what it is refused by.
-#[derive(Drop)]
+#[derive(Clone, Copy)]
 pub enum Checked {
     Good(model::Row),
     Refused(model::Refusal),

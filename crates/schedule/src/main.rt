@@ -117,7 +117,7 @@ fn show_point(label: &[u8], p: model::Point) {
 }
 
 // How many points a reading hands out, the first and the last.
-#[derive(Drop)]
+#[derive(Clone, Copy)]
 struct Summary {
     count: u64,
     first: model::Point,

@@ -7,7 +7,7 @@ ghost use Rattle.rows.specs.Checks.{Checks};
 ghost use Rattle.schema.specs.Tiers.{tiers_at, reach};
 
 // Where a schema's first tier stands.
-#[derive(Drop)]
+#[derive(Clone, Copy)]
 pub enum First {
     At(usize),
     Missing,

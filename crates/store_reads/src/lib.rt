@@ -9,7 +9,7 @@ ghost use Rattle.store_reads.specs.Reads.{reader_of, step_of, later};
 ghost use Rattle.store_reads.specs.Answers.{start_of, Answers};
 
 // A reader: the slab's bytes, the column and the range, the slot that it stands at and the slots left.
-#[derive(Drop)]
+#[derive(Clone, Copy)]
 pub struct Reader<'a> {
     pub slab: &'a [u8],
     pub column: u32,
@@ -20,14 +20,14 @@ pub struct Reader<'a> {
 }
 
 // A query's answer with the reader of its points. Where the query is refused the reader is at its end.
-#[derive(Drop)]
+#[derive(Clone, Copy)]
 pub struct QueryResult<'a> {
     pub queried: model::Queried,
     pub reader: Reader<'a>,
 }
 
 // A query's answer, and the reader's fields: its slab is the image from `from` up to `to`.
-#[derive(Drop)]
+#[derive(Clone, Copy)]
 pub struct Start {
     pub queried: model::Queried,
     pub from: usize,

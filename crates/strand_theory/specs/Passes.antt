@@ -138,15 +138,18 @@ near_number (suc d) n m t u less rise other = go (ℕ_discrete (u / suc d) (t / 
 -- ---- slots in a row, by their numbers
 
 pub before-left : (x y : ℕ) (is : List ℕ) → Before x y is → In x is
+before-left x y mathlib.Core.List.[] x'' = elim x'' [ ]
 before-left x y (z ∷ zs) (inl h) = inl h.0
 before-left x y (z ∷ zs) (inr h) = inr (before-left x y zs h)
 
 pub before-right : (x y : ℕ) (is : List ℕ) → Before x y is → In y is
+before-right x y mathlib.Core.List.[] x'' = elim x'' [ ]
 before-right x y (z ∷ zs) (inl h) = inr h.1
 before-right x y (z ∷ zs) (inr h) = inr (before-right x y zs h)
 
 in_slots : (n x p k : ℕ) → In x (slots_of n p k) → (u : ℕ) × (p ≤ u) × (u < p + k) × (x ≡ u % n)
 unfolding slots_of
+in_slots n x p zero x'' = elim x'' [ ]
 in_slots n x p (suc k) (inl e) = (p, omega arith, omega arith, e)
 in_slots n x p (suc k) (inr h) = let r = in_slots n x (suc p) k h in (r.0, omega (arith, r.1), omega (arith, r.2), r.3)
 
@@ -161,6 +164,7 @@ slots_in n u p (suc k) h l = go (ℕ_discrete u p) (slots_in n u (suc p) k)
 
 before-slots : (n x y p k : ℕ) → Before x y (slots_of n p k) → (u : ℕ) × (v : ℕ) × (p ≤ u) × (u < v) × (v < p + k) × (x ≡ u % n) × (y ≡ v % n)
 unfolding slots_of
+before-slots n x y p zero x'' = elim x'' [ ]
 before-slots n x y p (suc k) (inl h) = let r = in_slots n y (suc p) k h.1 in (p, r.0, omega arith, r.1, omega (arith, r.2), h.0, r.3)
 before-slots n x y p (suc k) (inr h) =
     let r = before-slots n x y (suc p) k h in

@@ -66,6 +66,7 @@ or_some (suc t) u h = omega arith
 -- a slot with a stamp is among these: their first stamp is not 0
 first_some : (s : List ℕ) (is : List ℕ) (i : ℕ) → In i is → 0 < stamp s i → 0 < first_stamp s is
 unfolding first_stamp
+first_some s mathlib.Core.List.[] i x'' h = elim x'' [ ]
 first_some s (j ∷ js) i (inl e) h = or_some (stamp s j) (first_stamp s js) (omega (arith, subst (λ (x : ℕ). 0 < stamp s x) e h))
 first_some s (j ∷ js) i (inr m) h = or_some (stamp s j) (first_stamp s js) (omega (arith, first_some s js i m h))
 

@@ -8,7 +8,7 @@ ghost use Rattle.tie_calls.specs.Encoded.{calls_in};
 ghost use Rattle.tie.specs.Kept.{situation, Kept};
 
 // The flags as the last call left them, and how many points were written out.
-#[derive(Drop)]
+#[derive(Clone, Copy)]
 pub struct Demanded {
     pub flags: model::Flags,
     pub count: usize,

@@ -9,7 +9,7 @@ ghost use Rattle.tie_figure.specs.Same.{answer_to, Agreed};
 ghost use Rattle.tie_figure.specs.Bound.{Near};
 
 // What a panel is asked of an image: its flags, and which series at which tier.
-#[derive(Drop)]
+#[derive(Clone, Copy)]
 pub struct Question {
     pub flags: model::Flags,
     pub handle: model::SeriesHandle,
@@ -17,14 +17,14 @@ pub struct Question {
 }
 
 // What two panels answer.
-#[derive(Drop)]
+#[derive(Clone, Copy)]
 pub struct Panels {
     pub one: model::Panel,
     pub other: model::Panel,
 }
 
 // The flags as the last call left them, and what the panel answers.
-#[derive(Drop)]
+#[derive(Clone, Copy)]
 pub struct After {
     pub flags: model::Flags,
     pub panel: model::Panel,

@@ -9,7 +9,7 @@ ghost use Rattle.reopening.specs.Reopening.{reopened};
 ghost use Rattle.tie_reopening.specs.Resumed.{history, asks, AsWithout};
 
 // A query of a tier, or an automatic one, whose tier does not count.
-#[derive(Drop)]
+#[derive(Clone, Copy)]
 pub struct Question {
     pub handle: model::SeriesHandle,
     pub automatic: bool,
@@ -19,7 +19,7 @@ pub struct Question {
 }
 
 // The flags as the last call left them, the answer, and how many points were written out.
-#[derive(Drop)]
+#[derive(Clone, Copy)]
 pub struct Answer {
     pub flags: model::Flags,
     pub queried: model::Queried,

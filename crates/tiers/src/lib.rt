@@ -8,7 +8,7 @@ ghost use Rattle.tiers.specs.Reached.{Reached, found_by, AnswerIs, NotFirst, Cho
 
 // A row's ring as a query finds it: both ends, the slot where its reading starts and how many slots it goes over, and where its slab stands in the image. What
 // stands side by side in an answer does not here: else the compiler copies two words by one load right after two stores, which stalls every query.
-#[derive(Drop)]
+#[derive(Clone, Copy)]
 pub struct Reach {
     pub from: usize,
     pub oldest: model::End,
@@ -19,7 +19,7 @@ pub struct Reach {
 }
 
 // The tier that is chosen, and its ring.
-#[derive(Drop)]
+#[derive(Clone, Copy)]
 pub struct Chosen {
     pub tier: usize,
     pub reach: Reach,

@@ -8,7 +8,7 @@ ghost use Rattle.window.specs.Parts.{Readable, Asked, job_in, gather, along, Fin
 ghost use Rattle.window.specs.Gather.{entered};
 
 // A source that is read: its sizes and its flag, what is made of it, the destination's interval, and the range.
-#[derive(Drop)]
+#[derive(Clone, Copy)]
 pub struct Reading {
     pub slots: usize,
     pub series: usize,
@@ -20,7 +20,7 @@ pub struct Reading {
 }
 
 // How many values a window has in the slots read, how many of them are finite, and the fold of these.
-#[derive(Drop)]
+#[derive(Clone, Copy)]
 pub struct Gathered {
     pub seen: usize,
     pub finite: usize,

@@ -9,14 +9,14 @@ ghost use Rattle.window_theory.specs.Cut.{onward};
 ghost use Rattle.window_runs.specs.Strand.{Edged, Trimmed, Stranded};
 
 // The place of the rest behind slots passed over, and how many slots are left behind the last of those in the range.
-#[derive(Drop)]
+#[derive(Clone, Copy)]
 struct Skipping {
     rest: model::Place,
     last: usize,
 }
 
 // A window, the slots that have it, and the place of the rest: between them are slots that are not in the range.
-#[derive(Drop)]
+#[derive(Clone, Copy)]
 pub struct Run {
     pub window: u64,
     pub run: model::Place,
@@ -115,14 +115,14 @@ pub fn next_run(slab: &[u8], q: window::Reading, place: model::Place) -> Run
 }
 
 // A part of the range, from its start up to this end, whose windows never fall in reading order; and the place of its first slot.
-#[derive(Drop)]
+#[derive(Clone, Copy)]
 pub struct Strand {
     pub place: model::Place,
     pub end: u64,
 }
 
 // What was met against the reading order: the end so far, the least window from there on, and the place of the first slot in the part.
-#[derive(Drop)]
+#[derive(Clone, Copy)]
 struct Edge {
     end: u64,
     low: u64,

@@ -7,7 +7,7 @@ ghost use Rattle.window.specs.Parts.{Fine};
 ghost use Rattle.window_write.specs.Parts.{filled_of, Ready};
 
 // A destination so far: its flag, how many writes, and how the last one ended.
-#[derive(Drop)]
+#[derive(Clone, Copy)]
 pub struct Filling {
     pub wrapped: bool,
     pub writes: u64,

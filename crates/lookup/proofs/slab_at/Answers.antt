@@ -1,0 +1,23 @@
+-- `lookup::slab_at` meets its contract: row and slab lie within the slice, and the slab's header agrees with the row. Assumes nothing.
+use Prim.Native.Nat.{◌+◌, ◌≤◌}
+use native.Mathlib.Omega.{arith}
+use lib.ListN.{length}
+use Rattle.model.specs.Bytes.{get}
+use Rattle.model.specs.Image.{row_place}
+use Rattle.lookup.proofs.Laws.{slab-long, slab-inside, slab-is}
+use borrow.Author.Rules.{rules}
+use Rattle.lookup.proofs.slab_at.Goals as goal
+
+pub overflow_add-from : goal.overflow_add-from
+overflow_add-from c = omega (arith, (slab-long _ c.requires.image_value _ c.requires.row_bound), (slab-inside _ c.requires.image_value _ c.requires.row_bound))
+
+pub get_u32-slots-requires : goal.get_u32-slots-requires
+get_u32-slots-requires c = omega (arith, (slab-long _ c.requires.image_value _ c.requires.row_bound), (slab-inside _ c.requires.image_value _ c.requires.row_bound))
+
+pub overflow_add-result : goal.overflow_add-result
+overflow_add-result c = omega (arith, (slab-inside _ c.requires.image_value _ c.requires.row_bound))
+
+pub returns : goal.returns
+returns c =
+    let pre = c.requires in
+    slab-is _ pre.image_value _ pre.row_bound c.row_u64-interval.ensures c.row_u32-series.ensures.0 c.row_u64-from.ensures c.row_u64-len.ensures c.get_u32-slots.ensures.0

@@ -1,0 +1,38 @@
+-- `reader::is_readable` meets its contract: without a sum or a product that wraps. Assumes nothing.
+use Prim.Native.Nat.{ℕ, ◌≤◌}
+use native.Mathlib.Omega.{arith}
+use mathlib.Core.Path.{◌≡◌}
+use mathlib.Core.List.{List}
+use lib.ListN.{length}
+use Rattle.model.specs.declared.Place.{Place}
+use Rattle.model.specs.Bytes.{get}
+use Rattle.model.specs.Layout.{stamps_at, stamps_behind, directory}
+use Rattle.reader.proofs.Laws.{cells_fit, unreadable, no_directory, no_room, no_column, no_slot, left_decides}
+use borrow.Author.Rules.{rules}
+use Rattle.reader.proofs.is_readable.Goals as goal
+
+pub returns-then-slab-lt-SLAB_HEADER : goal.returns-then-slab-lt-SLAB_HEADER
+returns-then-slab-lt-SLAB_HEADER c =
+    let a = c.args in unreadable a.slab.now a.column a.place c.if-slab-lt-SLAB_HEADER.true
+
+pub stamps_at-stamps-requires : goal.stamps_at-stamps-requires
+unfolding stamps_at stamps_behind directory
+stamps_at-stamps-requires c = omega (arith, c.get_u32-m.ensures.1)
+
+pub returns-then-slab-stamps : goal.returns-then-slab-stamps
+returns-then-slab-stamps c = no_directory c.args.slab.now c.args.column c.args.place c.get_u32-n.ensures.0 c.get_u32-m.ensures.0 c.stamps_at-stamps.ensures c.if-slab-lt-SLAB_HEADER.false c.if-slab-stamps.true
+
+pub overflow_mul-n : goal.overflow_mul-n
+overflow_mul-n c = omega (arith, cells_fit c.get_u32-n.result c.get_u32-m.result c.get_u32-n.ensures.1 c.get_u32-m.ensures.1)
+
+pub returns-then-slab-stamps-2 : goal.returns-then-slab-stamps-2
+returns-then-slab-stamps-2 c = no_room c.args.slab.now c.args.column c.args.place c.get_u32-n.ensures.0 c.get_u32-m.ensures.0 c.stamps_at-stamps.ensures c.if-slab-lt-SLAB_HEADER.false c.if-slab-stamps-2.true
+
+pub returns-then-column-m : goal.returns-then-column-m
+returns-then-column-m c = no_column c.args.slab.now c.args.column c.args.place c.get_u32-n.ensures.0 c.get_u32-m.ensures.0 c.stamps_at-stamps.ensures c.if-slab-lt-SLAB_HEADER.false c.if-slab-stamps.false c.if-slab-stamps-2.false c.if-column-m.true
+
+pub returns-then-place-n : goal.returns-then-place-n
+returns-then-place-n c = no_slot c.args.slab.now c.args.column c.args.place c.get_u32-n.ensures.0 c.get_u32-m.ensures.0 c.stamps_at-stamps.ensures c.if-slab-lt-SLAB_HEADER.false c.if-slab-stamps.false c.if-slab-stamps-2.false c.if-column-m.false c.if-place-n.true
+
+pub returns : goal.returns
+returns c = left_decides c.args.slab.now c.args.column c.args.place c.get_u32-n.ensures.0 c.get_u32-m.ensures.0 c.stamps_at-stamps.ensures c.if-slab-lt-SLAB_HEADER.false c.if-slab-stamps.false c.if-slab-stamps-2.false c.if-column-m.false c.if-place-n.false

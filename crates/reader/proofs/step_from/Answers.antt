@@ -1,0 +1,37 @@
+-- `reader::step_from` meets its contract. The loop's invariant: a step from here on is the step from the place on. Assumes nothing.
+use Prim.Native.Nat.{ℕ, ◌≤◌, ◌<◌}
+use native.Mathlib.Omega.{arith}
+use mathlib.Core.Path.{◌≡◌, refl, ap, ◌∙◌}
+use mathlib.Core.List.{List}
+use Rattle.model.specs.declared.Stepped.{Stepped}
+use Rattle.model.specs.Bytes.{get}
+use Rattle.model.specs.Ring.{stamp, cell}
+use Rattle.model.specs.Read.{step_from, stepped}
+use Rattle.laws.specs.Slab.{stamp-is, cell-is}
+use Rattle.reader.proofs.Laws.{Turn, skip_early, skip_late, skip_nan, hand_out, finished}
+use borrow.Author.Rules.{rules}
+use Rattle.reader.proofs.step_from.Invariants.{Inv}
+use Rattle.reader.proofs.step_from.Goals as goal
+
+pub loop-left-init : goal.loop-left-init
+loop-left-init c = record { in_slots = search rules; same = refl }
+
+pub loop-left-preserved-then-stamp-start : goal.loop-left-preserved-then-stamp-start
+loop-left-preserved-then-stamp-start c = record { in_slots = c.next_slot-slot.ensures.1; same = skip_early ((let test = c.loop-left-test in record { held = c.requires.held; some = test.true; same = c.loop-left.invariant.same; stamp-is = (c.get_u64-stamp.ensures ∙ ap (get 8 c.args.slab.now) c.stamp_place-at.ensures.0 ∙ stamp-is c.args.slab.now c.requires.held.series-is c.loop-left.slot); next-is = c.next_slot-slot.ensures.0 })) c.if-stamp-start.true }
+
+pub loop-left-preserved-then-end-stamp : goal.loop-left-preserved-then-end-stamp
+loop-left-preserved-then-end-stamp c = record { in_slots = c.next_slot-slot.ensures.1; same = skip_late ((let test = c.loop-left-test in record { held = c.requires.held; some = test.true; same = c.loop-left.invariant.same; stamp-is = (c.get_u64-stamp.ensures ∙ ap (get 8 c.args.slab.now) c.stamp_place-at.ensures.0 ∙ stamp-is c.args.slab.now c.requires.held.series-is c.loop-left.slot); next-is = c.next_slot-slot.ensures.0 })) c.if-end-stamp.true }
+
+pub loop-left-preserved : goal.loop-left-preserved
+loop-left-preserved c = record { in_slots = c.next_slot-slot.ensures.1; same = skip_nan ((let test = c.loop-left-test in record { held = c.requires.held; some = test.true; same = c.loop-left.invariant.same; stamp-is = (c.get_u64-stamp.ensures ∙ ap (get 8 c.args.slab.now) c.stamp_place-at.ensures.0 ∙ stamp-is c.args.slab.now c.requires.held.series-is c.loop-left.slot); next-is = c.next_slot-slot.ensures.0 })) c.if-stamp-start.false c.if-end-stamp.false (c.get_u64-value.ensures ∙ ap (get 8 c.args.slab.now) c.cell_place-cell.ensures.0 ∙ cell-is c.args.slab.now c.requires.held.slots-is c.requires.held.series-is c.args.column c.loop-left.slot) c.is_nan-nan.ensures c.if-nan.true }
+
+pub returns-in-loop-left : goal.returns-in-loop-left
+unfolding stepped
+returns-in-loop-left c = hand_out ((let test = c.loop-left-test in record { held = c.requires.held; some = test.true; same = c.loop-left.invariant.same; stamp-is = (c.get_u64-stamp.ensures ∙ ap (get 8 c.args.slab.now) c.stamp_place-at.ensures.0 ∙ stamp-is c.args.slab.now c.requires.held.series-is c.loop-left.slot); next-is = c.next_slot-slot.ensures.0 })) c.if-stamp-start.false c.if-end-stamp.false (c.get_u64-value.ensures ∙ ap (get 8 c.args.slab.now) c.cell_place-cell.ensures.0 ∙ cell-is c.args.slab.now c.requires.held.slots-is c.requires.held.series-is c.args.column c.loop-left.slot) c.is_nan-nan.ensures c.if-nan.false
+
+pub returns : goal.returns
+unfolding stepped
+returns c =
+    let a = c.args in
+    let l = c.loop-left in
+    finished a.slab.now a.column a.start a.end l.slot l.invariant.same (omega arith)

@@ -1,0 +1,9 @@
+-- `ring_joined::four` meets its contract: four slots read, in order. Assumes nothing.
+use borrow.Author.Rules.{rules}
+use Rattle.ring_joined.specs.Slots.{four-slots}
+use Rattle.ring_joined.proofs.four.Goals as goal
+
+pub returns : goal.returns
+returns c =
+    let a = c.args in
+    four-slots a.slab.now a.slot c.stamp_of-t0.ensures c.stamp_of-t1.ensures c.stamp_of-t2.ensures c.stamp_of-t3.ensures

@@ -1,0 +1,31 @@
+-- `rows::rows_blank` meets its contract: the test so far and the rows left are blank exactly when all are. Assumes nothing.
+use borrow.Author.Rules.{rules}
+use Prim.Native.Nat.{ℕ, ◌-◌, ◌≤◌}
+use mathlib.Core.Path.{◌≡◌, refl, sym, ap, ◌∙◌}
+use mathlib.Core.Bool.{Bool, ◌&&◌}
+use mathlib.Core.List.{List}
+use native.Mathlib.Omega.{arith}
+use Rattle.model.specs.Image.{every, blank_row}
+use Rattle.rows.specs.Rows.{rows_to}
+use Rattle.rows.proofs.Laws.{every_more, every_end}
+use Rattle.rows.proofs.rows_blank.Invariants.{Tested}
+use Rattle.rows.proofs.rows_blank.Goals as goal
+
+pub loop-i-init : goal.loop-i-init
+loop-i-init c = record { in_rows = omega arith; tested = refl }
+
+pub loop-i-preserved : goal.loop-i-preserved
+loop-i-preserved c =
+    let l = c.loop-i in
+    let a = c.args in
+    let one = c.row_blank-one.ensures ∙ ap blank_row c.row_at-r.ensures in
+    record {
+      in_rows = omega (arith, c.loop-i-test.true);
+      tested = every_more a.s.now a.n l.i blank_row l.good c.loop-i-test.true one ∙ l.invariant.tested;
+    }
+
+pub returns : goal.returns
+returns c =
+    let l = c.loop-i in
+    let a = c.args in
+    sym (every_end a.s.now a.n l.i blank_row l.good c.loop-i-test.false) ∙ l.invariant.tested

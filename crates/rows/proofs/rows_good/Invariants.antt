@@ -1,0 +1,24 @@
+use borrow.Author.Rules.{rules}
+use Prim.Native.Nat.{ℕ, ◌-◌, ◌≤◌}
+use mathlib.Core.Path.{◌≡◌, sym, ◌∙◌}
+use mathlib.Core.Bool.{true}
+use mathlib.Core.List.{List}
+use native.Mathlib.Omega.{arith}
+use borrow.Author.Tests.{not-true, not-false}
+use Rattle.model.specs.declared.Row.{Row}
+use Rattle.model.specs.Image.{row_at, row_shape}
+use Rattle.rows.specs.Rows.{rows_to, good_rows}
+use Rattle.rows.specs.Checks.{passes, fails}
+use Rattle.rows.proofs.Laws as laws
+use Rattle.rows.proofs.rows_good.Given as goal
+
+-- the rows behind p, from row i on, are good exactly when all rows are
+pub record Behind (s : List ℕ) (n schemas : ℕ) (p : Row) (i : ℕ) : Type 0 where
+  pub in_rows : i ≤ n
+  pub behind : laws.good_after schemas p (rows_to s n i) ≡ good_rows schemas (rows_to s n 0)
+
+abbrev pub invariant-loop-i : goal.invariant-loop-i
+invariant-loop-i l = Behind l.s l.n l.schemas l.p l.i
+
+abbrev pub decreases-loop-i : goal.decreases-loop-i
+decreases-loop-i l = l.n - l.i

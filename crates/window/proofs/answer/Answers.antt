@@ -1,0 +1,23 @@
+-- `window::answer` meets its contract, one case a return. Assumes nothing.
+use Prim.Native.Nat.{ℕ}
+use mathlib.Core.List.{List}
+use Rattle.model.specs.Ring.{walk}
+use Rattle.model.specs.Window.{Job}
+use Rattle.window.specs.Parts.{job_in}
+use Rattle.window.proofs.Laws.{is-empty, is_nothing_lem, is_number}
+use borrow.Author.Rules.{rules}
+use Rattle.window.proofs.answer.Goals as goal
+
+pub gather_values-g-requires : goal.gather_values-g-requires
+gather_values-g-requires c = record { readable = c.requires.readable; asked = c.requires.asked }
+
+pub returns-then-seen-eq0 : goal.returns-then-seen-eq0
+returns-then-seen-eq0 c = (is-empty (let a = c.args in job_in a.slab.now a.q) c.args.window c.args.column (let a = c.args in walk a.q.slots a.place.slot a.place.left) c.gather_values-g.ensures.value c.if-seen-eq0.true, tt)
+
+pub returns-then-finite-eq0 : goal.returns-then-finite-eq0
+returns-then-finite-eq0 c = (is_nothing_lem (let a = c.args in job_in a.slab.now a.q) c.args.window c.args.column (let a = c.args in walk a.q.slots a.place.slot a.place.left) c.gather_values-g.ensures.value c.if-seen-eq0.false c.if-finite-eq0.true, tt)
+
+pub returns : goal.returns
+returns c =
+    let g = c.gather_values-g.ensures in
+    is_number (let a = c.args in job_in a.slab.now a.q) c.args.window c.args.column (let a = c.args in walk a.q.slots a.place.slot a.place.left) g.value c.fold_end-x.ensures c.if-seen-eq0.false c.if-finite-eq0.false g.finite_bound
