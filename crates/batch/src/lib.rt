@@ -1,5 +1,7 @@
 // `record_batch` by value, with the flags as one number or as a record: opening's order on every call, then 11 for any entry, 13, 12, 18 for any entry's ring, then
 // one write to the finest ring of each schema that has entries (Rust's `Store::record_batch`). A refused batch stores nothing; an empty one is accepted at any stamp and changes nothing.
+#![tactic(auto)]
+
 ghost use Rattle.std.specs.Prelude.{◌≡◌, true, ◌<◌};
 ghost use Rattle.model.specs.Words.{outcome_no};
 ghost use Rattle.model.specs.Image.{schemas, open_check};

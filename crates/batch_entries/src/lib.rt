@@ -1,5 +1,7 @@
 // A batch's entries, lent as bytes, 16 each: whether a handle is out of bounds (11 InvalidHandle), whether a value is infinite (12 InvalidValue),
 // whether a schema has an entry, whether the stamp is old in the ring of one that has (18 OldSample). A last part shorter than 16 bytes is surplus and never read.
+#![tactic(auto)]
+
 ghost use Rattle.std.specs.Prelude.{◌≡◌, true, not};
 ghost use Rattle.model.specs.Image.{open_check};
 ghost use Rattle.model.specs.Record.{entries, every_entry, entries_of};

@@ -1,5 +1,7 @@
 // Consolidation by value: opening's order on every call, then every pair of adjacent rows of a schema, in row order (Rust's consolidate.rs). A refusal ends
 // the run; what was done before it stays.
+#![tactic(auto)]
+
 ghost use Rattle.std.specs.Prelude.{◌≡◌, suc, ◌-◌, ◌<◌, eqb};
 ghost use Rattle.model.specs.Words.{outcome_no};
 ghost use Rattle.model.specs.Image.{row_count, row_at, open_check};

@@ -1,5 +1,7 @@
 // Creation by value: the plan's checks, 9 for a short slice, then the image at the start of the lent slice and the first R flags false. Later bytes and
 // later flags stay; a refusal changes nothing.
+#![tactic(auto)]
+
 ghost use Rattle.std.specs.Prelude.{◌≡◌, false, ◌++◌, ◌≤◌, replicate, drop};
 ghost use Rattle.model.specs.Words.{outcome_no};
 ghost use Rattle.model.specs.Image.{create_check};

@@ -9,8 +9,7 @@ use Rattle.model.specs.Words.{signed}
 use Rattle.model.specs.Image.{rows, row_at, row_count, schemas, row_slots, create_check}
 use Rattle.model.specs.Read.{points_of}
 use Rattle.model.specs.Lent.{Lent, creation}
-use Rattle.model.specs.Record.{Entry, record_check, batch_check}
-use Rattle.model.specs.Query.{Answered}
+use Rattle.model.specs.Record.{record_check, batch_check}
 use Rattle.model.specs.Store.{Call, query_call, consolidate_call, Reply, refused, done, wrote, read, Deed, reads, records, records_all, runs, opens, deed, call, after}
 
 -- ---- the plan: two to four tiers

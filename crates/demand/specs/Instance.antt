@@ -1,16 +1,15 @@
 -- The third demand is not empty: a list of calls on three tiers that meets the supposition, with the promised answers, by computation. It stands beside the
 -- statement, so that an edit of it meets it. Assumes nothing.
-use Rattle.std.specs.Prelude.{ℕ, zero, suc, ◌+◌, ◌-◌, ◌*◌, ◌^◌, ◌≡◌, refl, Bool, true, false, ◌&&◌, List, [], ◌∷◌, ◌++◌, map, length, replicate, T, eqb, pos, negsuc}
+use Rattle.std.specs.Prelude.{ℕ, ◌-◌, ◌^◌, ◌≡◌, refl, Bool, true, false, ◌&&◌, List, [], ◌∷◌, replicate, T, eqb, negsuc}
 use Rattle.std.specs.Float.{binary64}
 use Rattle.std.specs.Float.Ieee.{to_bits, of_int}
 use Rattle.model.specs.declared.Row.{Row}
 use Rattle.model.specs.declared.Point.{Point}
 use Rattle.model.specs.Image.{rows, create_check}
 use Rattle.model.specs.Lent.{Lent}
-use Rattle.model.specs.Record.{Entry}
 use Rattle.model.specs.Store.{Call, call, after, record_call, batch_call, query_call, auto_call, consolidate_call, open_call}
 use Rattle.demand.specs.Demand.{Demand-defs, Situation, Event, took, ran, samples_in, suited, scheduled, supposed, history, newest_windows, each, answers, used, events, created, up_to_run, after_run, handed_out}
-use Rattle.model.specs.Cases.{Cases-defs, tier_of, tier, plan, num, infinity, at}
+use Rattle.model.specs.Cases.{Cases-defs, tier, plan, num, infinity, at}
 
 -- ---- the list
 

@@ -4,7 +4,7 @@ use Rattle.std.specs.Prelude.{ℕ, ◌+◌, ◌-◌, ◌^◌, ◌≡◌, refl, B
 use Rattle.std.proofs.Common.{sym, ap}
 use Rattle.std.proofs.lemmas.Bool.{false≢true}
 use Rattle.std.specs.Float.Ieee.{eq}
-use Rattle.model.specs.declared.End.TheVariants.{At, Missing}
+use Rattle.model.specs.declared.End.TheVariants.{At}
 use Rattle.model.specs.declared.LastPoint.{LastPoint}
 use Rattle.model.specs.declared.LastPoint.TheVariants.{Last, NoPoint}
 use Rattle.model.specs.declared.Refusal.TheVariants.{InvalidTier, OffPanel}

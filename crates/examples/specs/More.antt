@@ -1,24 +1,22 @@
 -- Sentences of document 01 that the cases A to L leave untried, as rows of the same kind, by computation. Assumes nothing.
-use Rattle.std.specs.Prelude.{ℕ, zero, suc, ◌+◌, ◌-◌, ◌*◌, ◌^◌, ◌≡◌, refl, Bool, true, false, List, [], ◌∷◌, ◌++◌, map, length, take, drop, replicate, pos}
+use Rattle.std.specs.Prelude.{ℕ, ◌≡◌, refl, true, false, List, [], ◌∷◌, ◌++◌, replicate, pos}
 use Rattle.model.specs.declared.Row.{Row}
 use Rattle.std.specs.Float.{binary64}
 use Rattle.std.specs.Float.Ieee.{of_bits}
-use Rattle.model.specs.declared.Point.{Point}
 use Rattle.model.specs.declared.Next.TheVariants.{Handed, Finished}
 use Rattle.model.specs.declared.Stepped.{Stepped}
-use Rattle.model.specs.declared.End.{End}
 use Rattle.model.specs.declared.End.TheVariants.{At, Missing}
 use Rattle.model.specs.declared.ConsolidationFn.TheVariants.{Average, Min, Max, Last, Sum, Count}
-use Rattle.model.specs.Bytes.{bytes, put, part}
+use Rattle.model.specs.Bytes.{bytes, put}
 use Rattle.model.specs.Layout.{fresh_value}
 use Rattle.model.specs.Image.{plan_check, open_check}
-use Rattle.model.specs.Ring.{Ring, write, stamp, cell}
+use Rattle.model.specs.Ring.{write, stamp, cell}
 use Rattle.model.specs.Read.{step}
 use Rattle.model.specs.Lent.{Lent, creation, opening, ring}
 use Rattle.demand.specs.Demand.{Demand-defs, within}
 use Rattle.model.specs.Record.{Entry, entries}
-use Rattle.model.specs.Store.{Call, Reply, Done, call, record_call, batch_call, query_call, auto_call, consolidate_call, open_call, refused, done, wrote, read, Shown, refusal, accepted, writes, points, shown}
-use Rattle.model.specs.Cases.{Cases-defs, tier_of, tier, plan_of, plan, num, infinity, fresh, Question, story, window, Result, last, value, empty, nothingFinite, Case, ◌gives◌, Holds, ring10, two, rec, end64, everything, at, last_call, shown_on}
+use Rattle.model.specs.Store.{Call, call, record_call, batch_call, query_call, auto_call, consolidate_call, open_call, refused, done, refusal, writes, points}
+use Rattle.model.specs.Cases.{Cases-defs, tier_of, tier, plan_of, plan, num, infinity, story, window, Result, last, value, empty, nothingFinite, Case, ◌gives◌, Holds, ring10, rec, end64, everything, at, last_call, shown_on}
 
 unfoldable pub both : ℕ → ℕ → ℕ → Call
 both t a b = batch_call (record { schema = 0; column = 0; value = a } ∷ record { schema = 0; column = 1; value = b } ∷ []) t

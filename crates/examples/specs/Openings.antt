@@ -1,5 +1,5 @@
 -- The wrap flags that opening works out, row by row; opening as a call; the rows' numbers by schema and tier. By computation. Assumes nothing.
-use Rattle.std.specs.Prelude.{ℕ, ◌+◌, ◌-◌, ◌*◌, ◌≡◌, refl, Bool, true, false, List, [], ◌∷◌, map, drop, replicate}
+use Rattle.std.specs.Prelude.{ℕ, ◌+◌, ◌*◌, ◌≡◌, refl, Bool, true, false, List, [], ◌∷◌, map, drop, replicate}
 use Rattle.model.specs.declared.End.TheVariants.{At, Missing}
 use Rattle.model.specs.Bytes.{put}
 use Rattle.model.specs.Layout.{fresh_slab}

@@ -1,22 +1,17 @@
 -- A reader's whole steps, readers made by hand that can't be read, and a query's whole answer of a row that is not the first. By computation. Assumes nothing.
-use Rattle.std.specs.Prelude.{ℕ, ◌+◌, ◌-◌, ◌≡◌, refl, Bool, true, false, List, [], ◌∷◌, ◌++◌, take, drop, replicate}
-use Rattle.model.specs.declared.Row.{Row}
+use Rattle.std.specs.Prelude.{ℕ, ◌≡◌, refl, true, false, List, [], ◌∷◌, ◌++◌, take, drop, replicate}
 use Rattle.model.specs.declared.Refusal.TheVariants.{InvalidTier}
-use Rattle.model.specs.declared.Place.{Place}
 use Rattle.model.specs.declared.Point.{Point}
 use Rattle.model.specs.declared.Next.{Next}
 use Rattle.model.specs.declared.Next.TheVariants.{Handed, Finished}
 use Rattle.model.specs.declared.Stepped.{Stepped}
-use Rattle.model.specs.declared.End.{End}
 use Rattle.model.specs.declared.End.TheVariants.{At, Missing}
 use Rattle.model.specs.declared.Queried.TheVariants.{Answer, Refused}
 use Rattle.model.specs.Bytes.{bytes, put}
 use Rattle.model.specs.Layout.{fresh_value, fresh_slab}
-use Rattle.model.specs.Ring.{Ring}
 use Rattle.model.specs.Read.{Reader, step, points_of, full, incomplete, both_ends}
 use Rattle.model.specs.Lent.{Lent, creation}
-use Rattle.model.specs.Record.{Entry}
-use Rattle.model.specs.Query.{Answered, QueryReply, found, not_found, query, query_auto, replied_by}
+use Rattle.model.specs.Query.{QueryReply, found, not_found, query, query_auto, replied_by}
 use Rattle.model.specs.Cases.{Cases-defs, tier_of, plan_of, num, end64, at}
 
 -- ---- steps: a slab of three slots and two series, stamped 30, 10, 20. Column 0 holds 5, 6, 7, column 1 holds 1, 2 and NaN

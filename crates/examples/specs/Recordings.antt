@@ -1,15 +1,14 @@
 -- What a recording accepts, stores and leaves: patterns of NaN, stamps, batches, two schemas with different max series. By computation. Assumes nothing.
-use Rattle.std.specs.Prelude.{ℕ, ◌+◌, ◌-◌, ◌^◌, ◌≡◌, refl, Bool, true, false, List, [], ◌∷◌, ◌++◌, replicate}
+use Rattle.std.specs.Prelude.{ℕ, ◌-◌, ◌^◌, ◌≡◌, refl, Bool, true, false, List, [], ◌∷◌, ◌++◌, replicate}
 use Rattle.model.specs.declared.Row.{Row}
-use Rattle.model.specs.declared.End.{End}
 use Rattle.model.specs.declared.End.TheVariants.{At}
 use Rattle.model.specs.Bytes.{put}
 use Rattle.model.specs.Layout.{fresh_head, fresh_slab}
-use Rattle.model.specs.Ring.{Ring, ColumnValue, write, stamp}
+use Rattle.model.specs.Ring.{Ring, write}
 use Rattle.model.specs.Lent.{Lent, creation, ring}
 use Rattle.model.specs.Record.{Entry, entries}
-use Rattle.model.specs.Store.{Call, Reply, Done, call, after, record_call, batch_call, query_call, auto_call, consolidate_call, refused, done, wrote, read, Shown, accepted, writes, points, shown}
-use Rattle.model.specs.Cases.{Cases-defs, tier_of, tier, plan_of, num, infinity, Question, story, Result, last, Case, ◌gives◌, Holds, rec, end64, everything, at}
+use Rattle.model.specs.Store.{Call, Reply, call, after, record_call, batch_call, query_call, auto_call, consolidate_call, refused, done, wrote, read, accepted, writes, points}
+use Rattle.model.specs.Cases.{Cases-defs, tier_of, tier, plan_of, num, infinity, story, last, Case, ◌gives◌, Holds, rec, end64, everything, at}
 
 -- ---- patterns: NaN by its exponent and a fraction that is not zero, whatever sign and quiet bit
 

@@ -1,6 +1,5 @@
 -- Runs beyond the rows of More: what a run answers, its marks and flags, and what stands at some places of the image after it. By computation. Assumes nothing.
 use Rattle.std.specs.Prelude.{ℕ, ◌-◌, ◌^◌, ◌≡◌, refl, Bool, true, false, ◌&&◌, cond, List, [], ◌∷◌, map, take, replicate, T, eqb}
-use Rattle.model.specs.declared.Row.{Row}
 use Rattle.model.specs.declared.Outcome.TheVariants as O
 use Rattle.model.specs.declared.Consolidated.TheVariants as C
 use Rattle.model.specs.declared.Queried.TheVariants as Q
@@ -9,9 +8,8 @@ use Rattle.model.specs.Bytes.{put, get}
 use Rattle.model.specs.Layout.{fresh_value}
 use Rattle.model.specs.Image.{rows, row_count}
 use Rattle.model.specs.Lent.{Lent, creation}
-use Rattle.model.specs.Record.{Entry}
 use Rattle.model.specs.Consolidate.{Run, run}
-use Rattle.model.specs.Store.{Call, Reply, after, replies, record_call, batch_call, query_call, consolidate_call, refused, done, wrote, outcome_reply, consolidated_reply, queried_reply}
+use Rattle.model.specs.Store.{Call, after, replies, record_call, batch_call, query_call, consolidate_call, refused, done, wrote, outcome_reply, consolidated_reply, queried_reply}
 use Rattle.demand.specs.Instance.{same_numbers}
 use Rattle.model.specs.Cases.{Cases-defs, tier_of, tier, plan_of, num, infinity, fresh, rec}
 

@@ -1,5 +1,7 @@
 // Many points in one call: a reader's steps, one after the other, into a lent slice of words. Nothing is supposed of slab, place or slice: a place made by
 // hand never reads out of bounds.
+#![tactic(auto)]
+
 ghost use Rattle.std.specs.Prelude.{◌≡◌, true, ◌/◌, length};
 ghost use Rattle.std.proofs.lemmas.List.Edits.{sets};
 ghost use Rattle.model.specs.Read.{readable};

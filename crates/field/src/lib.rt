@@ -2,6 +2,8 @@
 // A 32-bit field is handed out and taken as u64, with its bound, so that callers compute with it without a cast.
 // The bytes are joined by `|`, left to right, in a function of plain bytes, and stored by `x / 256^k % 256`. In a static library each get is then one load
 // and each put one store: `mov (%rdi,%rdx,1),%rax` for `get_u64`, `mov %ecx,(%rdi,%rdx,1)` for `put_u32`; no test of the index is left.
+#![tactic(auto)]
+
 ghost use Rattle.std.specs.Prelude.{◌≡◌, ◌∷◌, [], ◌+◌, ◌<◌, ◌≤◌, length};
 ghost use Rattle.model.specs.Bytes.{le, get, put};
 ghost use Rattle.model.specs.Ring.{is_infinite, is_nan_bits};

@@ -1,6 +1,8 @@
 // The panel's figure and the service figure by value: opening's order on every call, then 11 and 14; the last point that a reading over all time hands out, as a
 // whole number or 17 for the panel, in full with both ends for service tools. Nothing that is lent changes. `panel_numbered` and `service_numbered` have the
 // flags as one number, as they cross the edge to C, once opening's check has passed.
+#![tactic(auto)]
+
 ghost use Rattle.std.specs.Prelude.{◌≡◌, ◌<◌};
 ghost use Rattle.model.specs.Image.{row_at, row_count, open_check};
 ghost use Rattle.model.specs.Ring.{oldest, newest};

@@ -1,5 +1,5 @@
 -- The search backward, a slot at a time. Assumes nothing.
-use Prim.Native.Nat.{ℕ, suc, ◌-◌, ◌≤◌, ◌<◌}
+use Prim.Native.Nat.{ℕ, zero, suc, ◌-◌, ◌≤◌, ◌<◌}
 use native.Mathlib.Omega.{arith}
 use mathlib.Core.Path.{◌≡◌, sym, ◌∙◌}
 use mathlib.Core.Bool.{true, false, not, ◌&&◌, and-false}
@@ -18,7 +18,7 @@ before-first n i e = rw e
 
 pub before-later : (n i : ℕ) → 0 < i → i - 1 ≡ slot_before n i
 unfolding slot_before
-before-later n Prim.Native.Nat.zero h = elim h [ ]
+before-later n zero h = elim h [ ]
 before-later n (suc i) h = omega arith
 
 module _ (s : List ℕ) (c n i k : ℕ) where

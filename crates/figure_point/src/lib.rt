@@ -1,5 +1,7 @@
 // The last point that a reading of a ring's column over all time hands out: the first one going backward from the cursor, so that no forward reading and no
 // buffer is needed. Where the cursor's slot is handed out it is that slot's.
+#![tactic(auto)]
+
 ghost use Rattle.std.specs.Prelude.{◌≡◌, ◌<◌};
 ghost use Rattle.ring.specs.Parts.{Sized, ring_of};
 ghost use Rattle.figure_theory.specs.Back.{ring_last, slot_before, back_from};

@@ -1,4 +1,6 @@
 // A value as the panel shows it, by shifts on its 64-bit pattern: 17 beyond ±2^53, infinite or NaN; else the whole number nearest to it, ties to even.
+#![tactic(auto)]
+
 ghost use Rattle.std.specs.Prelude.{◌≡◌, ◌<◌, ◌≤◌, ◌^◌, pos};
 ghost use Rattle.std.specs.Float.{binary64};
 ghost use Rattle.std.specs.Float.Ieee.{of_bits};

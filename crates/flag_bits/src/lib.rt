@@ -1,4 +1,6 @@
 // The wrap flags as one number, as they cross the edge to C: bit i is row i's flag. Every number stands for some flags, so a caller can lend any.
+#![tactic(auto)]
+
 ghost use Rattle.std.specs.Prelude.{◌≡◌, true, false, ◌<◌, ◌≤◌, get_or, set};
 ghost use Rattle.flag_bits.specs.Bits.{bits, bit_of, number};
 

@@ -1,5 +1,7 @@
 // The image's numbers, with the names of docs/FORMAT.md, in one place: how long each part is, where each field stands in its part, the magic words, and the
 // bounds. And where a slab's stamps stand.
+#![tactic(auto)]
+
 ghost use Rattle.std.specs.Prelude.{◌≡◌, ◌<◌, ◌^◌};
 ghost use Rattle.model.specs.Layout.{stamps_at};
 

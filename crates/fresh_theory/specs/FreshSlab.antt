@@ -9,7 +9,7 @@ use Rattle.std.proofs.lemmas.List.{length-replicate}
 use Rattle.model.specs.declared.Row.{Row}
 use Rattle.model.specs.Bytes.{le, bytes, part, get, u32, u64}
 use Rattle.model.specs.Layout.{directory, stamps_behind, column_behind, stamps_at, column_at, copies, fresh_value, fresh_head, fresh_slab}
-use Rattle.model.specs.Image.{row_slots, sound}
+use Rattle.model.specs.Image.{row_slots}
 use Rattle.model.specs.Ring.{slots, series, interval, cursor, stamp_at, cell_at, stamp, cell}
 use Rattle.laws.specs.Bytes.{length-bytes, le_bytes}
 use Rattle.laws.specs.Fresh.{length-head, length-fresh}

@@ -1,5 +1,7 @@
 // The checks of an image and of a plan, in document 01's order, each as one answer: `check_image` is what opening and every later call begins with.
 // Where it accepts, image_theory.specs.Good's `good_open` says what holds of the image: its rows, where its slabs stand, that each is sound.
+#![tactic(auto)]
+
 ghost use Rattle.std.specs.Prelude.{◌≡◌, true, ◌+◌, ◌*◌, ◌≤◌, length};
 ghost use Rattle.model.specs.Words.{outcome_no};
 ghost use Rattle.model.specs.Image.{tier_check, shape, layout_check, plan_check, image_length, placed, slabs_end, sound_all, open_check};

@@ -1,4 +1,6 @@
 // The bytes of a fresh image, written in place: header, rows with their slabs' places, slabs. Every byte past the image stays.
+#![tactic(auto)]
+
 ghost use Rattle.std.specs.Prelude.{◌≡◌, true, ◌++◌, ◌+◌, ◌*◌, ◌≤◌, length, take, drop};
 ghost use Rattle.model.specs.Bytes.{bytes, splice};
 ghost use Rattle.model.specs.Image.{row_length, row_bytes, placed_row, placed_rows, all_rows, slabs_end, fresh_slabs, shape, image_length, fresh_image};

@@ -3,6 +3,8 @@
 // can wrap and no row is divided, and an image of 2^40 bytes. Two fields that stand side by side are read as one word (`two_u32`), and what the rows of a schema share is carried from row to
 // row (`Shared`). A store of one schema with at most four rows has a loop of its own (`few_good`), which the compiler writes out row by row. `check` asks this
 // pass, then the plain check.
+#![tactic(auto)]
+
 ghost use Rattle.std.specs.Prelude.{◌≡◌, ◌+◌, ◌*◌, ◌^◌, ◌<◌, ◌≤◌, true, length};
 ghost use Rattle.model.specs.Image.{schemas, row_count, open_check};
 ghost use Rattle.image_quick.specs.Seen.{TwoAt, Head, Known, IfGood, Begun, Followed, Joined, Only, NextTier, Low, Slotted, Timed, Slab, Here, Begins, Early, Ends, Counted, All};

@@ -11,7 +11,8 @@ use mathlib.Core.List.{List, [], ◌∷◌}
 use Rattle.model.specs.declared.Row.{Row}
 use Rattle.model.specs.Bytes.{get, u32, u64}
 use Rattle.model.specs.Layout.{slot_count}
-use Rattle.model.specs.Image.{first, schemas, row_count, row_place, row_at, rows_from, rows, row_slots, row_length, every, header, follows, orderly, row_shape, shape, keep_row, tiers_of, tier_check, new_tier_check, tier_checks, rising, schema_check, schema_checks, slabs_end, image_length, layout_check, sound_fields, sound}
+use Rattle.model.specs.Image.{first, schemas, row_count, row_place, row_at, rows_from, rows, row_slots, row_length, every, header, follows, orderly, row_shape}
+use Rattle.model.specs.Image.{shape, keep_row, tiers_of, tier_check, new_tier_check, tier_checks, rising, schema_check, schema_checks, slabs_end, image_length, layout_check, sound_fields, sound}
 use Rattle.model.specs.Ring.{slots, series, interval, cursor}
 use Rattle.laws.specs.Tests.{yes_le, yes_lt, yes_eq, le_is, lt-is, eq_is, and_left, and_right, split3}
 use Rattle.laws.specs.Checks.{all_zero, each_zero, unless_zero}

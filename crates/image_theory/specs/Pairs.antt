@@ -19,7 +19,8 @@ use Rattle.model.specs.Image.{row_count, row_slots, sound}
 use Rattle.model.specs.Ring.{Ring, ColumnValue, slots, cursor, stamp, is_old, end_of, newest}
 use Rattle.model.specs.Window.{Job, window_answer}
 use Rattle.model.specs.Lent.{Lent, row, ring, with_ring}
-use Rattle.model.specs.Consolidate.{Filled, write_unless, write_on, write_bits, write_answer, unless_refused, fill_window, fill, Run, refuse_run, stamps_below, or_zero, windows, job_of, filled, with_mark, close_pair, pair_with, pair_by, pair, pair_if, pairs}
+use Rattle.model.specs.Consolidate.{Filled, write_unless, write_on, write_bits, write_answer, unless_refused, fill_window, fill, Run, refuse_run, stamps_below}
+use Rattle.model.specs.Consolidate.{or_zero, windows, job_of, filled, with_mark, close_pair, pair_with, pair_by, pair, pair_if, pairs}
 use Rattle.laws.specs.Tests.{and_left, and_right, lt-is}
 use Rattle.ring_theory.specs.Sound.{Sound, kept-by-write, sound-write}
 use Rattle.image_theory.specs.Checks.{sound_keeps}

@@ -1,5 +1,7 @@
 // Where slabs stand and how long they are, worked out from slots and series: a slab's length, the image's length (8 LayoutTooLarge), and the test that
 // a table of contents says the same (1 BadImage). A length above 2^40 is given as 2^40 + 1: it is found out before it is multiplied.
+#![tactic(auto)]
+
 ghost use Rattle.std.specs.Prelude.{◌≡◌, ◌+◌, ◌*◌, ◌<◌, ◌≤◌, length};
 ghost use Rattle.model.specs.Layout.{slab_length};
 ghost use Rattle.model.specs.Image.{row_slots, row_length, slabs_end, placed};

@@ -1,5 +1,7 @@
 // What a call finds in the image and flags that it is lent, once opening's check has passed: the row of a schema's finest tier (11 InvalidHandle), a row's
 // slab with its sizes, whether a stamp is old in its ring (18 OldSample), a row's flag. Record, query and consolidation go from a handle to a slab by these.
+#![tactic(auto)]
+
 ghost use Rattle.std.specs.Prelude.{◌≡◌, false, ◌+◌, ◌<◌, ◌≤◌, get_or};
 ghost use Rattle.model.specs.Bytes.{get};
 ghost use Rattle.model.specs.Image.{row_count, row_place, row_at, rows, slab_of, open_check};

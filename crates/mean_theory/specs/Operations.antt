@@ -1,7 +1,8 @@
 -- lib.Ieee's `add`, and its `div` by a count, as one rounding of an exact number; and a value that fits a format as a whole number of the format's
 -- smallest values. By these the other files speak of ±a / u and no longer of significands and exponents. Assumes nothing.
 use Rattle.std.specs.Prelude.{◌≡◌, refl, Bool, not, ◌&&◌, cond, ℕ, zero, suc, ◌+◌, ◌-◌, ◌*◌, ◌%◌, ◌^◌, ◌≤◌, ◌<◌, ℤ, pos, negsuc, T, leb, ltb, eqb, Float}
-use Rattle.std.proofs.Common.{sym, ap, ◌∙◌, subst, subst₂, true≢false, not-le_of_lt, mul_comm, zero-mul, mul-le-mul_right, le_of_mul-le-mul_right, lt_of_mul-lt-mul_right, mul-lt-mul_of_pos_right, mul-pos, arith, ltb→lt, nltb→le, leb→le, eqb→eq, pow-add, pow_pos}
+use Rattle.std.proofs.Common.{sym, ap, ◌∙◌, subst, subst₂, true≢false, not-le_of_lt, mul_comm, zero-mul, mul-le-mul_right}
+use Rattle.std.proofs.Common.{le_of_mul-le-mul_right, lt_of_mul-lt-mul_right, mul-lt-mul_of_pos_right, mul-pos, arith, ltb→lt, nltb→le, leb→le, eqb→eq, pow-add, pow_pos}
 use Rattle.std.proofs.Math.Bool.{true, false}
 use Rattle.std.proofs.Math.Nat.{mul-sub}
 use Rattle.std.proofs.Math.Pow.{pow-lt}

@@ -1,6 +1,6 @@
 -- The cases A to L of document 01 as rows of one table, and the theorem that each row holds, by computation; then the figures of the request 2026-04.
 -- The stores have two series, so that the Rust can run A to L. Assumes nothing.
-use Rattle.std.specs.Prelude.{ℕ, zero, suc, ◌+◌, ◌*◌, ◌≡◌, refl, Bool, true, false, List, [], ◌∷◌, ◌++◌, map, length, take, replicate, pos, neg_ℤ}
+use Rattle.std.specs.Prelude.{ℕ, zero, suc, ◌*◌, ◌≡◌, refl, Bool, true, false, List, [], ◌∷◌, ◌++◌, map, length, take, replicate, pos, neg_ℤ}
 use Rattle.std.specs.Float.{binary64}
 use Rattle.std.specs.Float.Ieee.{of_bits, to_bits, of_int, add, div, lt}
 use Rattle.model.specs.declared.Row.{Row}

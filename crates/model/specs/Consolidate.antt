@@ -11,7 +11,7 @@ use Rattle.model.specs.declared.TierFn.TheVariants.{None, Some}
 use Rattle.model.specs.declared.WindowAnswer.{WindowAnswer}
 use Rattle.model.specs.declared.WindowAnswer.TheVariants.{Empty, Number, NothingFinite}
 use Rattle.model.specs.Words.{function_no}
-use Rattle.model.specs.Bytes.{put64, put}
+use Rattle.model.specs.Bytes.{put64}
 use Rattle.model.specs.Layout.{fresh_value}
 use Rattle.model.specs.Image.{row_count, mark_at, unless, first, open_check}
 use Rattle.model.specs.Ring.{Ring, write, is_old, slots, stamp, order, oldest, newest, is_infinite}

@@ -4,7 +4,7 @@ use Rattle.std.specs.Prelude.{ℕ, zero, suc, ◌+◌, ◌-◌, ◌*◌, ◌/◌
 use Rattle.model.specs.declared.End.{End}
 use Rattle.model.specs.declared.End.TheVariants.{At, Missing}
 use Rattle.model.specs.declared.Place.{Place}
-use Rattle.model.specs.Bytes.{u32, u64, put32, put64, get, put}
+use Rattle.model.specs.Bytes.{u32, u64, put32, put64}
 use Rattle.model.specs.Layout.{stamps_at, column_at}
 
 -- ---- the fields of a slab

@@ -1,4 +1,6 @@
 // Opening by value: the image's checks, then the first R flags worked out from the stamps above each cursor. Later flags stay; a refusal changes nothing.
+#![tactic(auto)]
+
 ghost use Rattle.std.specs.Prelude.{◌≡◌, ◌++◌, ◌+◌, ◌≤◌, drop};
 ghost use Rattle.model.specs.Words.{outcome_no};
 ghost use Rattle.model.specs.Bytes.{get};

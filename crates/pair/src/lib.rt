@@ -1,5 +1,7 @@
 // One pair of an image in good order, the rows i and i + 1 of a schema: 16, then 10, then the source's windows written to the destination, then the mark. A
 // refusal leaves what was written before it, and the mark where it was.
+#![tactic(auto)]
+
 ghost use Rattle.std.specs.Prelude.{◌≡◌, true, ◌&&◌, ◌+◌, ◌-◌, ◌<◌, ◌≤◌, ◌^◌, eqb, ltb, length};
 ghost use Rattle.model.specs.Words.{outcome_no};
 ghost use Rattle.model.specs.Image.{row_at, row_place, slab_of};

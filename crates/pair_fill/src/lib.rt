@@ -1,5 +1,7 @@
 // A window's writes over one image: columns ascending. The source is read as a part of the image, then the destination is lent on as
 // another part, one after the other; a refusal ends them. The source's bytes, and all others but the destination's, stay.
+#![tactic(auto)]
+
 ghost use Rattle.std.specs.Prelude.{◌≡◌, ◌+◌, ◌<◌, ◌≤◌, ◌^◌};
 ghost use Rattle.model.specs.declared.Outcome.TheVariants.{Accepted};
 ghost use Rattle.model.specs.Window.{window_answer};

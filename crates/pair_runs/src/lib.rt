@@ -1,5 +1,7 @@
 // A pair's writes. Where the windows of the source's stamps never fall in reading order, they are runs of slots, one behind the other: each stamp is read once
 // to find the part, once for its window and once for each column. Where they fall, the range is read in parts, strand by strand, each of which has windows that never fall.
+#![tactic(auto)]
+
 ghost use Rattle.std.specs.Prelude.{◌≡◌, ◌+◌, ◌*◌, ◌<◌, ◌≤◌, ◌^◌};
 ghost use Rattle.model.specs.declared.Outcome.TheVariants.{Accepted};
 ghost use Rattle.model.specs.Ring.{walk};

@@ -1,5 +1,7 @@
 // What is read of a pair's source: the destination's function by its number, the test of every stamp (10 CorruptedSlab), and the range, from the start
 // of the window that the last run ended in up to the newest stamp.
+#![tactic(auto)]
+
 ghost use Rattle.std.specs.Prelude.{◌≡◌, true, ◌<◌, ◌^◌};
 ghost use Rattle.model.specs.Words.{function_no};
 ghost use Rattle.model.specs.Ring.{newest};

@@ -1,6 +1,8 @@
 // `query` and `query_auto` by value (Rust's `Store::query` and `Store::query_auto`): opening's order on every call, then 11, 14, 15, or 11, 15 and the choice of
 // a tier; the answer has the tier, both ends, the range, the incomplete mark and the reader's place. Nothing that is lent changes. `query_numbered` and
 // `auto_numbered` have the flags as one number, as they cross the edge to C, once opening's check has passed.
+#![tactic(auto)]
+
 ghost use Rattle.std.specs.Prelude.{◌≡◌};
 ghost use Rattle.model.specs.Image.{open_check};
 ghost use Rattle.model.specs.Query.{query, query_auto, replied_by};

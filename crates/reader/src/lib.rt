@@ -1,5 +1,7 @@
 // The reader's step (Rust's `RingIterator::next`): the next point in reading order, or the end, and where the reader stands then. The slab's bytes stand
 // beside the place, and nothing is supposed of either: a place made by hand never reads out of bounds.
+#![tactic(auto)]
+
 ghost use Rattle.std.specs.Prelude.{◌≡◌, ◌<◌};
 ghost use Rattle.model.specs.Read.{readable, step_from, step};
 ghost use Rattle.reader.specs.Held.{Held};

@@ -1,6 +1,8 @@
 // `record` by value: opening's order on every call, then 11, 12, 13, 18, then the write to the schema's finest ring (Rust's `Store::record`). The row's slab is
 // lent on as a part of the image; other slabs' bytes, other rows' flags and the surplus stay. `ready` asks for no flag and `store`
 // for one, so that a caller may keep its flags as it likes.
+#![tactic(auto)]
+
 ghost use Rattle.std.specs.Prelude.{◌≡◌, ◌<◌};
 ghost use Rattle.model.specs.Words.{outcome_no};
 ghost use Rattle.model.specs.Image.{row_count, row_at, open_check};

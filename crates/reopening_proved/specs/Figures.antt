@@ -4,7 +4,6 @@ use Rattle.std.proofs.Math.Path.{ap, sym}
 use Rattle.std.proofs.Common.{◌∙◌}
 use Rattle.model.specs.declared.LastPoint.TheVariants.{NoPoint}
 use Rattle.model.specs.Image.{create_check}
-use Rattle.model.specs.Lent.{Lent}
 use Rattle.model.specs.Query.{QueryReply, found, not_found, query}
 use Rattle.model.specs.Figure.{end_of_time, reading, last_after, last_on, PanelReply, shows_nothing, not_shown, shown_point, panel_on, panel, ServiceReply, serves_nothing, not_served, served_point, service_on, service}
 use Rattle.model.specs.Store.{Call, query_call, Shown, refusal, accepted, writes, points, shown, read_or, call, after}

@@ -1,1 +1,2 @@
 // Proof that an opening changes nothing of what a caller sees (stated in the crate reopening), in specs/. No code.
+#![tactic(auto)]

@@ -1,5 +1,7 @@
 // Carries out a stored list of calls through the proved library and compares with the answers that the Rust gave: every answer, point, flag, and the image's
 // bytes after each call, by a sum. README.md says how the list (`stdin`) is laid out and how it was made. A line a group of calls, and a total.
+#![tactic(auto)]
+
 mod calls;
 mod stored;
 

@@ -1,5 +1,7 @@
 // The ring of one slab, read: where stamps and cells stand; the stamp, the cell and the cursor; the slot of a stamp and the next slot; whether a stamp is
 // old; the place where a reading starts (Rust's ring.rs). A slab is lent as its own slice; n slots and m series are what its header says (`Sized`).
+#![tactic(auto)]
+
 ghost use Rattle.std.specs.Prelude.{◌≡◌, suc, ◌+◌, ◌*◌, ◌/◌, ◌%◌, ◌<◌, ◌≤◌, ◌^◌};
 ghost use Rattle.model.specs.Layout.{slab_length, stamps_at, column_at};
 ghost use Rattle.model.specs.Ring.{cursor, stamp, cell, is_old, first_place};

@@ -1,5 +1,7 @@
 // The ends of a ring: newest is the stamp at the cursor, oldest the first nonzero stamp in reading order (Rust's `newest_timestamp` and `oldest_timestamp`
 // of ring.rs); and what of a range a ring with these ends covers (`analyze_coverage` of query.rs).
+#![tactic(auto)]
+
 ghost use Rattle.std.specs.Prelude.{◌≡◌, ◌<◌};
 ghost use Rattle.model.specs.Ring.{end_of, first_stamp, walk, oldest, newest};
 ghost use Rattle.model.specs.Read.{full, incomplete, both_ends};

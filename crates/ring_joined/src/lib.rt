@@ -1,5 +1,7 @@
 // The stamps of some slots that stand side by side, joined by `|`: 0 where each of them is 0. A scan for a stamp asks once for eight slots, two instructions
 // a slot in place of five.
+#![tactic(auto)]
+
 ghost use Rattle.std.specs.Prelude.{◌≡◌, not, ◌+◌, ◌≤◌, eqb};
 ghost use Rattle.model.specs.Ring.{any_stamp};
 ghost use Rattle.ring.specs.Parts.{Sized};

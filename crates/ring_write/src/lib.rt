@@ -1,5 +1,7 @@
 // A ring's writers: one value, and a batch of values (Rust's `write` and `write_batch` of ring.rs). Both store the stamp in its slot, then cells, then the
 // cursor, and answer the flag. A slab is lent as its own slice and stays in good order (`Sound`).
+#![tactic(auto)]
+
 ghost use Rattle.std.specs.Prelude.{◌≡◌, ◌||◌, ◌<◌, ◌≤◌, ltb, length};
 ghost use Rattle.model.specs.Bytes.{put};
 ghost use Rattle.model.specs.Ring.{interval, put_cells, write};

@@ -1,5 +1,7 @@
 // The calls as programs in C and in Rust link them (c/include/rondo.h): numbers and byte slices alone. The flags are one number, bit i row i's flag, so every
 // number can be lent. Each answers 0, or the number of its refusal. No caller tests anything first.
+#![tactic(auto)]
+
 ghost use Rattle.std.specs.Prelude.{◌≡◌, ◌/◌, length};
 ghost use Rattle.std.proofs.lemmas.List.Edits.{sets};
 ghost use Rattle.model.specs.Image.{plan_check, image_length, create_check, open_check};

@@ -1,5 +1,7 @@
 // Header and rows: what is read of them, their shape and order (1 BadImage), and a plan's fields that must be zero.
 // Tests of plain numbers are joined by `&`: no branch, and the code is the definition.
+#![tactic(auto)]
+
 ghost use Rattle.std.specs.Prelude.{◌≡◌, true, ◌+◌, ◌*◌, ◌<◌, ◌≤◌, length};
 ghost use Rattle.model.specs.Words.{outcome_no};
 ghost use Rattle.model.specs.Image.{unless, header, row_at, follows, row_shape, blank_row, every, shape, blank};

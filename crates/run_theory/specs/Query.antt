@@ -5,7 +5,7 @@ use Rattle.std.proofs.Math.Nat.{mul-le-mul_right}
 use Rattle.std.proofs.Common.{mul-pos, arith, sym, ap, ◌∙◌, subst}
 use mathlib.Core.List.{List, [], ◌∷◌, ◌++◌, map}
 use Rattle.model.specs.Image.{schemas, first, unless}
-use Rattle.model.specs.Lent.{Lent, tiers}
+use Rattle.model.specs.Lent.{Lent}
 use Rattle.model.specs.Record.{Entry, handle_ok, record_check, record_on, batch_check, batch_on}
 use Rattle.model.specs.Query.{query_check, answered, query_on, query}
 use Rattle.model.specs.Store.{Call, query_call, read_or, Deed, reads, records, records_all, runs, opens, deed, doing, call, after}

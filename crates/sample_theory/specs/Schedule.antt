@@ -1,7 +1,7 @@
 -- The schedule of runs: a run follows a tick once all its samples are in, and each coarsest interval has one at the least. So between two runs the ticks go no
 -- further than to the end of the coarsest interval after that of the last run. Here D is the coarsest interval, ρ ticks long; the first tick is tick A * ρ, e
 -- ticks were reached so far, f of them at the last run. Assumes nothing.
-use Rattle.std.specs.Prelude.{ℕ, zero, suc, ◌+◌, ◌-◌, ◌*◌, ◌/◌, ◌≤◌, ◌<◌, ◌≡◌, refl, ◌≢◌, Bool, true, false, not, ◌||◌, cond, List, [], ◌∷◌, ◌++◌, map, leb, ltb, eqb}
+use Rattle.std.specs.Prelude.{ℕ, zero, suc, ◌+◌, ◌*◌, ◌/◌, ◌≤◌, ◌<◌, ◌≡◌, refl, ◌≢◌, Bool, true, false, not, ◌||◌, cond, List, [], ◌∷◌, ◌++◌, map, leb, ltb, eqb}
 use Rattle.std.proofs.Math.Nat.{zero-div, lt-div-mul-add}
 use Rattle.std.proofs.Common.{mul-pos, mul-le-mul_right, mul-div_cancel, div-lt_iff_lt-mul, arith, sym, ap, ◌∙◌, subst, append_assoc, append-nil}
 use Rattle.std.proofs.Math.Decide.{ℕ_discrete}

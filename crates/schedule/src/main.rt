@@ -3,6 +3,8 @@
 // of an hour; and 02:59:59. One line a run says how many values it wrote: two series of its minutes and hours, those of the mark's window again. After the
 // second run and after the third one line a tier and series says how many points a query over all time hands out, and the first and the last of them, as
 // seconds and tenths of a value: after the second the last minute and hour are those still open.
+#![tactic(auto)]
+
 ghost use Rattle.std.specs.Prelude.{◌<◌};
 
 // A store of three tiers, made in a lent image.

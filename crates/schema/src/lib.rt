@@ -1,4 +1,6 @@
 // The checks of a schema by its tiers, in document 01's order: 2, 3, each tier's 4 then 5, then 6, 7; schema by schema.
+#![tactic(auto)]
+
 ghost use Rattle.std.specs.Prelude.{◌≡◌, ◌+◌, ◌*◌, ◌<◌, ◌≤◌, length};
 ghost use Rattle.model.specs.Words.{outcome_no};
 ghost use Rattle.model.specs.Image.{tier_check, tier_checks, tiers_of, rising, schema_check, schema_checks};

@@ -1,4 +1,6 @@
 // A slab: the check of its header against its row (10 CorruptedSlab), and a fresh one. The fill loops are plain, so that they are compiled to wide stores.
+#![tactic(auto)]
+
 ghost use Rattle.std.specs.Prelude.{◌≡◌, ◌+◌, ◌-◌, ◌*◌, ◌≤◌, length, replicate};
 ghost use Rattle.model.specs.Bytes.{bytes, splice};
 ghost use Rattle.model.specs.Layout.{copies, fresh_value, fresh_head, fresh_slab, slab_length};

@@ -1,5 +1,7 @@
 // The calls that write, in Rust's forms: the image is a lent slice and the flags are changed in place (Rust's `&mut self`). Each copies the flags out, calls
 // the by-value core, and stores the flags that it answers. A refused call changes nothing unless the model says so.
+#![tactic(auto)]
+
 ghost use Rattle.std.specs.Prelude.{◌≡◌};
 ghost use Rattle.model.specs.Words.{outcome_no};
 ghost use Rattle.model.specs.Image.{create_check, open_check};

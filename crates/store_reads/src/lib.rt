@@ -1,5 +1,7 @@
 // The calls that read, in Rust's forms: a query hands back its answer with a reader over the part of the image that it names (Rust's `RingIterator`), and
 // `next` moves the reader on behind `&mut`. Nothing that is lent changes.
+#![tactic(auto)]
+
 ghost use Rattle.std.specs.Prelude.{◌≡◌, ◌-◌};
 ghost use Rattle.model.specs.Bytes.{part};
 ghost use Rattle.model.specs.Query.{query, query_auto, replied_by};

@@ -59,14 +59,14 @@ below_mono a c (x ∷ xs) l = omega (arith, counted_mono a c x l, below_mono a c
 -- where one of them is a itself
 below_more : (a c : ℕ) (xs : List ℕ) → In a xs → a < c → below a xs < below c xs
 unfolding below
-below_more a c [] x'' l = elim x'' [ ]
+below_more a c [] h l = elim h [ ]
 below_more a c (x ∷ xs) (inl e) l =
     omega (arith, e, counted_out a x (omega (arith, e)), counted_in c x (omega (arith, e)), below_mono a c xs (omega arith))
 below_more a c (x ∷ xs) (inr h) l = omega (arith, counted_mono a c x (omega arith), below_more a c xs h l)
 
 below_less : (a : ℕ) (xs : List ℕ) → In a xs → below a xs < length xs
 unfolding below
-below_less a [] x' = elim x' [ ]
+below_less a [] h = elim h [ ]
 below_less a (x ∷ xs) (inl e) = omega (arith, counted_out a x (omega (arith, e)), below_all a xs)
 below_less a (x ∷ xs) (inr h) = omega (arith, counted_one a x, below_less a xs h)
 

@@ -1,7 +1,7 @@
 -- Stamps that stand in their own slots go round the ring in passes, counted from the slot behind the cursor, or from slot 0 where the flag is not set; the
 -- newest stamp's pass is its lap. Where a later stamp is read before an earlier one, its pass is later too, and a lap of one of the two lies between the
 -- passes. Assumes nothing.
-use Rattle.std.specs.Prelude.{ℕ, zero, suc, ◌+◌, ◌-◌, ◌*◌, ◌/◌, ◌%◌, ◌≤◌, ◌<◌, ◌≡◌, refl, ◌⊎◌, ◌≢◌, Bool, List, ◌∷◌}
+use Rattle.std.specs.Prelude.{ℕ, zero, suc, ◌+◌, ◌-◌, ◌*◌, ◌/◌, ◌%◌, ◌≤◌, ◌<◌, ◌≡◌, refl, ◌⊎◌, ◌≢◌, Bool, List, [], ◌∷◌}
 use Rattle.std.proofs.Math.Nat.{suc-mul, add-mul-mod_self_right, mod-lt, mod_self, add-mod_left, mod-eq-sub-mod, mod-add-div', lt-div-mul-add}
 use Rattle.std.proofs.Common.{zero-mul, mul-zero, mul_comm, mul_assoc, add-mul, mul-le-mul_right, mod-eq_of_lt, div-mul-le_self, sym, ap, ◌∙◌, subst, inl, inr}
 use native.Mathlib.Omega.{arith}
@@ -138,18 +138,18 @@ near_number (suc d) n m t u less rise other = go (ℕ_discrete (u / suc d) (t / 
 -- ---- slots in a row, by their numbers
 
 pub before-left : (x y : ℕ) (is : List ℕ) → Before x y is → In x is
-before-left x y mathlib.Core.List.[] x'' = elim x'' [ ]
+before-left x y [] h = elim h [ ]
 before-left x y (z ∷ zs) (inl h) = inl h.0
 before-left x y (z ∷ zs) (inr h) = inr (before-left x y zs h)
 
 pub before-right : (x y : ℕ) (is : List ℕ) → Before x y is → In y is
-before-right x y mathlib.Core.List.[] x'' = elim x'' [ ]
+before-right x y [] h = elim h [ ]
 before-right x y (z ∷ zs) (inl h) = inr h.1
 before-right x y (z ∷ zs) (inr h) = inr (before-right x y zs h)
 
 in_slots : (n x p k : ℕ) → In x (slots_of n p k) → (u : ℕ) × (p ≤ u) × (u < p + k) × (x ≡ u % n)
 unfolding slots_of
-in_slots n x p zero x'' = elim x'' [ ]
+in_slots n x p zero h = elim h [ ]
 in_slots n x p (suc k) (inl e) = (p, omega arith, omega arith, e)
 in_slots n x p (suc k) (inr h) = let r = in_slots n x (suc p) k h in (r.0, omega (arith, r.1), omega (arith, r.2), r.3)
 
@@ -164,7 +164,7 @@ slots_in n u p (suc k) h l = go (ℕ_discrete u p) (slots_in n u (suc p) k)
 
 before-slots : (n x y p k : ℕ) → Before x y (slots_of n p k) → (u : ℕ) × (v : ℕ) × (p ≤ u) × (u < v) × (v < p + k) × (x ≡ u % n) × (y ≡ v % n)
 unfolding slots_of
-before-slots n x y p zero x'' = elim x'' [ ]
+before-slots n x y p zero h = elim h [ ]
 before-slots n x y p (suc k) (inl h) = let r = in_slots n y (suc p) k h.1 in (p, r.0, omega arith, r.1, omega (arith, r.2), h.0, r.3)
 before-slots n x y p (suc k) (inr h) =
     let r = before-slots n x y (suc p) k h in

@@ -2,7 +2,7 @@
 -- is cut at most 2 (L - 1) times, so it is done in at most 2 L - 1 parts, each of which is looked for in one pass over the stamps and then filled; one more where
 -- the mark lies in the first window of all time, the range starts at 0 and a slot was never written. For every list of calls from creation on, and for each pair
 -- of a run, whose source the pair before may just have written. Assumes nothing.
-use Rattle.std.specs.Prelude.{ℕ, zero, suc, ◌+◌, ◌-◌, ◌*◌, ◌≤◌, ◌<◌, ◌≡◌, List, ◌∷◌, eqb, length}
+use Rattle.std.specs.Prelude.{ℕ, zero, suc, ◌+◌, ◌-◌, ◌*◌, ◌≤◌, ◌<◌, ◌≡◌, List, [], ◌∷◌, eqb, length}
 use Rattle.std.proofs.Common.{zero-add, add-zero, arith, subst, inl, inr}
 use Rattle.std.proofs.Math.Path.{refl}
 use Rattle.model.specs.declared.ConsolidationFn.{ConsolidationFn}
@@ -66,7 +66,7 @@ or_some (suc t) u h = omega arith
 -- a slot with a stamp is among these: their first stamp is not 0
 first_some : (s : List ℕ) (is : List ℕ) (i : ℕ) → In i is → 0 < stamp s i → 0 < first_stamp s is
 unfolding first_stamp
-first_some s mathlib.Core.List.[] i x'' h = elim x'' [ ]
+first_some s [] i m h = elim m [ ]
 first_some s (j ∷ js) i (inl e) h = or_some (stamp s j) (first_stamp s js) (omega (arith, subst (λ (x : ℕ). 0 < stamp s x) e h))
 first_some s (j ∷ js) i (inr m) h = or_some (stamp s j) (first_stamp s js) (omega (arith, first_some s js i m h))
 

@@ -1,8 +1,7 @@
 -- For each clause of the third demand's supposition a plan or a list of calls that breaks it, and is refused by it; and some that meet it. By computation.
 -- Assumes nothing.
-use Rattle.std.specs.Prelude.{ℕ, zero, suc, ◌+◌, ◌*◌, ◌^◌, ◌≡◌, refl, Bool, true, false, List, [], ◌∷◌, ◌++◌, map, length, replicate}
-use Rattle.model.specs.declared.Row.{Row}
-use Rattle.model.specs.Store.{Call, record_call, batch_call, consolidate_call, open_call}
+use Rattle.std.specs.Prelude.{ℕ, ◌≡◌, refl, Bool, true, false, List, [], ◌∷◌, replicate}
+use Rattle.model.specs.Store.{Call, record_call, consolidate_call, open_call}
 use Rattle.demand.specs.Demand.{Situation, suited, supposed, history}
 use Rattle.model.specs.Cases.{tier, plan, num}
 use Rattle.demand.specs.Instance.{Instance-defs, both}

@@ -1,9 +1,9 @@
 -- What the request 2026-01 asks and the promise does not need here: for each a list of calls, or a plan, that breaks that alone, with the promise kept. The
 -- theorem supposes it, since the request does. By computation. Assumes nothing.
-use Rattle.std.specs.Prelude.{ℕ, zero, suc, ◌≡◌, refl, Bool, true, false, not, ◌&&◌, List, [], ◌∷◌, map, replicate, T}
+use Rattle.std.specs.Prelude.{ℕ, ◌≡◌, refl, Bool, true, false, not, ◌&&◌, List, [], ◌∷◌, map, replicate, T}
 use Rattle.model.specs.declared.Row.{Row}
 use Rattle.model.specs.Image.{rows}
-use Rattle.model.specs.Store.{Call, record_call, consolidate_call}
+use Rattle.model.specs.Store.{record_call, consolidate_call}
 use Rattle.demand.specs.Demand.{each, suited, Situation, samples, answers, tier_interval, due}
 use Rattle.model.specs.Cases.{tier, num}
 use Rattle.supposition.specs.Needed.{Needed-defs, clauses, conj, kept, on, off, small, third, all_but}

@@ -1,7 +1,6 @@
 -- The third demand's statement, computed on a story: what is due and promised there, and what the statement says of it. Assumes nothing.
-use Rattle.std.specs.Prelude.{ℕ, ◌<◌, ◌≡◌, refl, Bool, true, false, ◌&&◌, List, [], ◌∷◌, map, replicate, T}
+use Rattle.std.specs.Prelude.{ℕ, ◌<◌, ◌≡◌, refl, true, false, ◌&&◌, List, [], ◌∷◌, map, replicate, T}
 use Rattle.std.proofs.Common.{lit<}
-use Rattle.model.specs.declared.Row.{Row}
 use Rattle.model.specs.declared.Point.{Point}
 use Rattle.model.specs.Image.{rows, row_count, schemas, create_check}
 use Rattle.model.specs.Store.{Call, record_call, consolidate_call, open_call}

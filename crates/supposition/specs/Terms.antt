@@ -1,14 +1,11 @@
 -- The third demand's words, computed from short lists: which plans are suited, what is an offset, what the calls did, which windows are due and closed, what is
 -- promised of their points. Assumes nothing.
-use Rattle.std.specs.Prelude.{ℕ, ◌^◌, ◌≡◌, refl, Bool, true, false, List, [], ◌∷◌, pos}
+use Rattle.std.specs.Prelude.{◌^◌, ◌≡◌, refl, true, false, List, [], ◌∷◌, pos}
 use Rattle.std.specs.Float.{binary64}
 use Rattle.std.specs.Float.Ieee.{of_bits}
-use Rattle.model.specs.declared.Row.{Row}
 use Rattle.model.specs.declared.Point.{Point}
-use Rattle.model.specs.Lent.{Lent}
-use Rattle.model.specs.Record.{Entry}
-use Rattle.model.specs.Store.{Call, batch_call, consolidate_call}
-use Rattle.demand.specs.Demand.{Demand-defs, Sample, Event, ran, events, events_of, samples_in, suited, supposed, is_offset, newest_windows, is_closed, within, each}
+use Rattle.model.specs.Store.{batch_call, consolidate_call}
+use Rattle.demand.specs.Demand.{Demand-defs, Sample, ran, events, events_of, samples_in, suited, supposed, is_offset, newest_windows, is_closed, within, each}
 use Rattle.model.specs.Cases.{Cases-defs, tier, num, infinity, fresh}
 use Rattle.demand.specs.Instance.{minus, sample, point}
 

@@ -1,5 +1,5 @@
 -- The clauses that Needed breaks one by one are, with the first stamp above 0, the whole of the supposition. Assumes nothing.
-use Rattle.std.specs.Prelude.{ℕ, ◌%◌, ◌≡◌, refl, Bool, true, false, ◌&&◌, List, [], ◌∷◌, ltb, eqb}
+use Rattle.std.specs.Prelude.{◌%◌, ◌≡◌, refl, Bool, true, false, ◌&&◌, ltb, eqb}
 use Rattle.demand.specs.Demand.{Sample, samples_in, first_of, ascending, all, is_offset, gapless, ticks, scheduled, supposed, Situation, finest, coarsest, history}
 use Rattle.sample_theory.specs.Lists.{all_three}
 use Rattle.supposition.specs.Needed.{clauses, conj}

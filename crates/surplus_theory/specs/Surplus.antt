@@ -10,7 +10,8 @@ use Rattle.laws.specs.Tests.{yes_le, eq_is, split3}
 use Rattle.laws.specs.Checks.{each_zero, unless_zero}
 use Rattle.model.specs.declared.Row.{Row}
 use Rattle.model.specs.Bytes.{part}
-use Rattle.model.specs.Image.{tier_check, new_tier_check, unless, first, row_count, total_length, row_place, rows, row_length, slabs_end, image_length, shape, layout_check, placed, slab_of, sound_all, plan_check, create_check, open_check, fresh_image}
+use Rattle.model.specs.Image.{tier_check, new_tier_check, unless, first, row_count, total_length, row_place, rows, row_length, slabs_end}
+use Rattle.model.specs.Image.{image_length, shape, layout_check, placed, slab_of, sound_all, plan_check, create_check, open_check, fresh_image}
 use Rattle.model.specs.Lent.{Lent, wrap_flags, open_on, opening, create_on, creation}
 use Rattle.image_theory.specs.Good.{head-inside}
 use Rattle.layout.specs.Ends.{ends_ge}

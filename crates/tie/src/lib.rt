@@ -1,6 +1,8 @@
 // The third demand about the code. `demand` creates a store in a lent slice, carries out the calls before a run, the run and the calls between, queries a
 // column at a tier over all time, and writes out the points that the reader hands out. What it ensures is the third demand of those points (specs/Kept.antt),
 // for every plan, slice, flags and calls in bytes; nothing is required. A point takes two words of `out`: stamp, then value; the words past the points stay.
+#![tactic(auto)]
+
 ghost use Rattle.std.specs.Prelude.{◌≡◌, ◌++◌, ◌∷◌, []};
 ghost use Rattle.model.specs.Store.{after, consolidate_call};
 ghost use Rattle.lookup.specs.Parts.{lent_of};

@@ -1,5 +1,7 @@
 // The claim that histories in time order behave as before request 2026-05, about the code. `run_after` creates a store in a lent slice, carries out calls and runs.
 // What it ensures (specs/RanAfter.antt) holds for every plan, slice, flags and calls in bytes; nothing is required.
+#![tactic(auto)]
+
 ghost use Rattle.consolidate.specs.Parts.{run_done};
 ghost use Rattle.tie_calls.specs.Encoded.{calls_in};
 ghost use Rattle.tie_as_before.specs.RanAfter.{RanAfter};

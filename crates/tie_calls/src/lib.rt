@@ -1,5 +1,7 @@
 // Carries out a list of calls, lent as bytes (specs/Encoded.antt), on a lent image through the proved cores: what it leaves is the fold of the step function
 // `call`. A query changes nothing, so its turn answers the flags as they are.
+#![tactic(auto)]
+
 ghost use Rattle.std.specs.Prelude.{◌≡◌, ◌+◌, ◌≤◌, length};
 ghost use Rattle.model.specs.Lent.{opening};
 ghost use Rattle.model.specs.Store.{call, after, consolidate_call};

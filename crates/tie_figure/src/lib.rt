@@ -1,6 +1,8 @@
 // The theorems on the panel's figure about the code. `same_on_panel` asks the panel of two stores: unless one is refused, stores that agree in the last point's value
 // answer the same (specs/Same.antt). `panel_after` creates a store in a lent slice, carries out the calls before a run, the run and the calls between, and asks the panel:
 // what it ensures is the bound on the number shown (specs/Bound.antt), for every plan, slice, flags and calls in bytes. Nothing is required.
+#![tactic(auto)]
+
 ghost use Rattle.std.specs.Prelude.{◌≡◌};
 ghost use Rattle.model.specs.Figure.{panel_reply};
 ghost use Rattle.lookup.specs.Parts.{lent_of};

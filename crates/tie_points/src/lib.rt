@@ -1,5 +1,7 @@
 // Steps the reader of a query's answer to its end and writes the points into a lent slice of words, two a point: stamp, then value. It stops where the slice
 // is full; a refused query has no points. The words past the points stay.
+#![tactic(auto)]
+
 ghost use Rattle.std.specs.Prelude.{◌≡◌, ◌/◌, min, length, take};
 ghost use Rattle.std.proofs.lemmas.List.Edits.{sets};
 ghost use Rattle.model.specs.Read.{points_from};

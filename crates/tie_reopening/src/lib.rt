@@ -1,6 +1,8 @@
 // The claim on opening about the code. `ask_after` creates a store in a lent slice, carries out calls, opens it anew with whatever flags it is handed, carries out
 // further calls and queries. What it ensures is that image and answer are those without the opening (specs/Resumed.antt), for every plan, slice, flags and calls in
 // bytes; nothing is required. A point takes two words of `out`: stamp, then value; the words past the points stay.
+#![tactic(auto)]
+
 ghost use Rattle.std.specs.Prelude.{◌≡◌};
 ghost use Rattle.model.specs.Store.{call, after, queried_reply};
 ghost use Rattle.lookup.specs.Parts.{lent_of};

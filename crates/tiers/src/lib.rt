@@ -1,6 +1,8 @@
 // What a query finds in an image in good order: whether a schema has a tier; a row's ring, with its ends, the reader's place and where its slab stands; the
 // tier that `query_auto` chooses (`select_tier` of query.rs); the answer. Each ring is looked at once. A tier's slab is handed on as the part of the image
 // that its row names. `ring_at` and `answer` ask for a row's flag alone, so that a caller may keep its flags as it likes.
+#![tactic(auto)]
+
 ghost use Rattle.std.specs.Prelude.{◌≡◌, ◌<◌, ltb, length};
 ghost use Rattle.model.specs.Image.{row_count, rows, tiers_of, open_check};
 ghost use Rattle.model.specs.Lent.{first_row};

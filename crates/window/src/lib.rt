@@ -1,6 +1,8 @@
 // A window's answer for one column of a source: one pass over slots in ring order gathers the counts and the fold of the finite values; then no value, a
 // number, or NaN because nothing finite remained. The caller says which slots: a run of the reading order that has all of the window.
 // `gather_values` alone says what the pass finds, so that another way to find it changes nothing else.
+#![tactic(auto)]
+
 ghost use Rattle.std.specs.Prelude.{◌≡◌, ◌/◌, ◌%◌, ◌^◌, ◌<◌, ◌≤◌, eqb};
 ghost use Rattle.model.specs.Ring.{stamp, cell, walk};
 ghost use Rattle.model.specs.Window.{window_of, held_value, held, held_in};

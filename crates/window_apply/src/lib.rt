@@ -1,5 +1,7 @@
 // The six functions of a window's finite values as one fold, in f64: where it starts, how one value more enters, what is made of it and of the count (Rust's
 // `ConsolidationFn::apply`). That a fold of finite values is never NaN is proved in specs/Fine.antt.
+#![tactic(auto)]
+
 ghost use Rattle.std.specs.Prelude.{◌≡◌};
 ghost use Rattle.model.specs.Window.{fold_start, fold_step, fold_end};
 

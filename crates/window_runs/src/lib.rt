@@ -1,6 +1,8 @@
 // A source whose windows never fall in reading order, met window by window: the slots before a limit are passed over, and the slots of one window are a run.
 // `specs/Rest.antt` has the laws: such runs are the windows that the search finds, in its order, and a run has all that its window has. `next_strand` finds the
 // greatest part of a range that is such a source (`specs/Strand.antt`).
+#![tactic(auto)]
+
 ghost use Rattle.std.specs.Prelude.{◌≡◌, ◌+◌, ◌%◌, ◌<◌, ◌≤◌};
 ghost use Rattle.window.specs.Parts.{Readable, job_in};
 ghost use Rattle.model.specs.Ring.{walk};

@@ -1,6 +1,6 @@
 -- A range cut in two at the start of a window: the windows of the whole are those of the first part, then those of the second; and each window's answer is that
 -- of its part. So a pair may be filled part by part. Assumes nothing.
-use Prim.Native.Nat.{ℕ, zero, suc, ◌+◌, ◌≤◌, ◌<◌}
+use Prim.Native.Nat.{ℕ, zero, suc, ◌≤◌, ◌<◌}
 use native.Mathlib.Omega.{arith}
 use Rattle.std.proofs.Math.Decide.{dec_lt}
 use Rattle.std.specs.Prelude.{◌≡◌, Bool, length, leb, ltb}

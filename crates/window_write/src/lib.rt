@@ -1,5 +1,7 @@
 // A window's answer written to the destination: no value writes nothing, a number writes its pattern, NaN because nothing finite remained writes the one NaN
 // that document 01 names. A write tests 12, then 13; a refusal leaves the slab and ends the filling. A write that is old is passed over: slab and filling stay as they are.
+#![tactic(auto)]
+
 ghost use Rattle.std.specs.Prelude.{◌≡◌, ◌+◌, ◌≤◌};
 ghost use Rattle.model.specs.Consolidate.{write_bits, write_answer};
 ghost use Rattle.ring_theory.specs.Sound.{Sound};

@@ -1,5 +1,7 @@
 // The worked examples H, J and K of document 01, J as request 2026-01 has it, run through the proved code: 10 into 30, two series, averages. Each line is what a run answered, the mark
 // that it left, and the stamp and the value's pattern of one slot of the coarser tier.
+#![tactic(auto)]
+
 ghost use Rattle.std.specs.Prelude.{◌≡◌, ◌<◌, length};
 
 // A fresh store of two tiers, 10 for 90 and 30 for 90.

@@ -17,12 +17,16 @@ loop-i-init c = begins _ _
 
 pub returns-in_default : goal.returns-in_default
 returns-in_default c =
-    let no = handle_none (record { image = c.args.image.now; flags = [] }) _ _ ((let it : finest_of c.args.image.now (get 4 c.args.batch.now (16 * c.loop-i.i)) (get 4 c.args.batch.now (16 * c.loop-i.i + 4)) ≡ c.finest_row-found.result = rw (← c.get_u32-schema.ensures.0, ← c.get_u32-column.ensures.0) (sym c.finest_row-found.ensures) in it) ∙ c.in_default.is) in
+    let found_is : finest_of c.args.image.now (get 4 c.args.batch.now (16 * c.loop-i.i)) (get 4 c.args.batch.now (16 * c.loop-i.i + 4)) ≡ c.finest_row-found.result =
+    rw (← c.get_u32-schema.ensures.0, ← c.get_u32-column.ensures.0) (sym c.finest_row-found.ensures) in
+    let no = handle_none (record { image = c.args.image.now; flags = [] }) _ _ (found_is ∙ c.in_default.is) in
     ap not (ends _ _ c.loop-i.invariant (every_no _ _ _ _ c.loop-i-test.true (fits-is _ _ _ false no)))
 
 pub loop-i-preserved : goal.loop-i-preserved
 loop-i-preserved c =
-    let yes = (handle_at (record { image = c.args.image.now; flags = [] }) _ _ ((let it : finest_of c.args.image.now (get 4 c.args.batch.now (16 * c.loop-i.i)) (get 4 c.args.batch.now (16 * c.loop-i.i + 4)) ≡ c.finest_row-found.result = rw (← c.get_u32-schema.ensures.0, ← c.get_u32-column.ensures.0) (sym c.finest_row-found.ensures) in it) ∙ c.in-At.is)).0 in
+    let found_is : finest_of c.args.image.now (get 4 c.args.batch.now (16 * c.loop-i.i)) (get 4 c.args.batch.now (16 * c.loop-i.i + 4)) ≡ c.finest_row-found.result =
+    rw (← c.get_u32-schema.ensures.0, ← c.get_u32-column.ensures.0) (sym c.finest_row-found.ensures) in
+    let yes = (handle_at (record { image = c.args.image.now; flags = [] }) _ _ (found_is ∙ c.in-At.is)).0 in
     goes_on _ _ c.loop-i.invariant (every-on _ _ _ _ c.loop-i-test.true (fits-is _ _ _ true yes))
 
 pub returns : goal.returns

@@ -43,8 +43,8 @@ overflow_add-i c = omega (arith, c.loop-i.invariant.few_turns)
 pub same_schema-same-requires : goal.same_schema-same-requires
 same_schema-same-requires c =
     let next_in : suc c.loop-i.i < row_count c.loop-i.image =
-        let v = c.loop-i.invariant in
-        omega (arith, v.goes.count-is, v.rows_are, c.loop-i-test.true) in
+    let v = c.loop-i.invariant in
+    omega (arith, v.goes.count-is, v.rows_are, c.loop-i-test.true) in
     record { image_value = c.loop-i.invariant.goes.opened; row_bound = next_in }
 
 pub loop-i-preserved-then-not-same : goal.loop-i-preserved-then-not-same
@@ -64,8 +64,8 @@ loop-i-preserved-then-not-same c =
 pub pair-u-requires : goal.pair-u-requires
 pair-u-requires c =
     let next_in : suc c.loop-i.i < row_count c.loop-i.image =
-        let v = c.loop-i.invariant in
-        omega (arith, v.goes.count-is, v.rows_are, c.loop-i-test.true) in
+    let v = c.loop-i.invariant in
+    omega (arith, v.goes.count-is, v.rows_are, c.loop-i-test.true) in
     let one_schema : same_schema (run_of c.loop-i.image c.loop-i.u) c.loop-i.i ≡ true = sym c.same_schema-same.ensures ∙ c.if-not-same.false in
     let v = c.loop-i.invariant in
     record { adjacent = record { opened = v.goes.opened; next_in = next_in; same_schema_lem = eq_is _ _ one_schema }; count_bound = omega (arith, v.few_writes, v.few_turns) }
@@ -82,11 +82,11 @@ loop-i-preserved c =
     let one_schema : same_schema (run_of c.loop-i.image c.loop-i.u) c.loop-i.i ≡ true = sym c.same_schema-same.ensures ∙ c.if-not-same.false in
     let s0 = c.args.image.now in
     let turned : pairs (run_of c.pair-u.new.image c.pair-u.result) (c.loop-i.i + 1) (c.get_u32-n.result - 1 - (c.loop-i.i + 1)) ≡ pairs (fresh s0 c.args.flags) 0 (row_count s0 - 1) =
-        let l = c.loop-i in
-        pair_turn (run_of c.loop-i.image c.loop-i.u) l.i c.get_u32-n.result c.loop-i-test.true l.invariant.same one_schema (accepted l.invariant.accepted) c.pair-u.ensures.0 in
+    let l = c.loop-i in
+    pair_turn (run_of c.loop-i.image c.loop-i.u) l.i c.get_u32-n.result c.loop-i-test.true l.invariant.same one_schema (accepted l.invariant.accepted) c.pair-u.ensures.0 in
     let next_in : suc c.loop-i.i < row_count c.loop-i.image =
-        let v = c.loop-i.invariant in
-        omega (arith, v.goes.count-is, v.rows_are, c.loop-i-test.true) in
+    let v = c.loop-i.invariant in
+    omega (arith, v.goes.count-is, v.rows_are, c.loop-i-test.true) in
     let l = c.loop-i in
     let s = c.pair-u.new.image in
     let g = goes_pair l.image s l.u l.i c.pair-u.result l.invariant.goes.opened next_in c.pair-u.ensures.0 in

@@ -1,7 +1,6 @@
 -- `field::get_u32` meets its contract: the bytes at the indices are the field. Assumes nothing.
 use mathlib.Core.Path.{◌∙◌}
 use Rattle.field.proofs.Laws.{get-bytes}
-use borrow.Author.Rules.{rules}
 use Rattle.field.proofs.get_u32.Goals as goal
 
 pub returns : goal.returns

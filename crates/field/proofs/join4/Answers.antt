@@ -4,7 +4,6 @@ use mathlib.Core.Path.{◌∙◌}
 use mathlib.Core.List.{[], ◌∷◌}
 use Rattle.model.specs.Bytes.{le}
 use Rattle.field.proofs.Laws.{joined-le}
-use borrow.Author.Rules.{rules}
 use Rattle.field.proofs.join4.Goals as goal
 
 pub returns : goal.returns

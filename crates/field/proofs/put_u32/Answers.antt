@@ -2,7 +2,6 @@
 use native.Mathlib.Omega.{arith}
 use lib.ListN.{length-set}
 use Rattle.field.proofs.Laws.{stored}
-use borrow.Author.Rules.{rules}
 use Rattle.field.proofs.put_u32.Goals as goal
 
 pub bounds-s-at-2 : goal.bounds-s-at-2

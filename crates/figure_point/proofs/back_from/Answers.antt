@@ -21,10 +21,11 @@ loop-left-preserved-then-nan c =
 pub returns-then-stamp-lt-END_OF_TIME : goal.returns-then-stamp-lt-END_OF_TIME
 unfolding end_of_time
 returns-then-stamp-lt-END_OF_TIME c =
+    let number : let a = c.args in is_nan_bits (cell a.slab.now a.column c.loop-left.slot) ≡ false = rw (← c.cell_of-value.ensures) (sym c.is_nan-nan.ensures ∙ c.if-nan.false) in
     let a = c.args in
     let l = c.loop-left in
     let t = c.stamp_of-stamp.ensures in
-    let handed = is-handed a.slab.now a.column a.n l.slot l.left (rw t at c.if-stamp-lt-END_OF_TIME.true) (let it : let a = c.args in is_nan_bits (cell a.slab.now a.column c.loop-left.slot) ≡ false = rw (← c.cell_of-value.ensures) (sym c.is_nan-nan.ensures ∙ c.if-nan.false) in it) in
+    let handed = is-handed a.slab.now a.column a.n l.slot l.left (rw t at c.if-stamp-lt-END_OF_TIME.true) number in
     rw (t, c.cell_of-value.ensures) (back_there a.slab.now a.column a.n l.slot l.left c.loop-left-test.true handed ∙ l.invariant.finds)
 
 pub loop-left-preserved : goal.loop-left-preserved

@@ -1,11 +1,9 @@
 -- `flag_bits::flags_of` meets its contract. What is stored so far, before the bits of the rest, are the number's bits. Assumes nothing.
-use Prim.Native.Nat.{◌+◌, ◌-◌, ◌≤◌}
+use Prim.Native.Nat.{◌+◌, ◌-◌}
 use native.Mathlib.Omega.{arith}
-use mathlib.Core.Path.{◌≡◌, refl, ◌∙◌}
-use mathlib.Core.List.{◌++◌}
-use lib.ListN.{length, take, length-set}
-use borrow.Author.Rules.{rules}
-use Rattle.flag_bits.specs.Bits.{bits, flag_stored, all_stored}
+use mathlib.Core.Path.{refl, ◌∙◌}
+use lib.ListN.{length-set}
+use Rattle.flag_bits.specs.Bits.{flag_stored, all_stored}
 use Rattle.flag_bits.proofs.flags_of.Goals as goal
 
 pub loop-i-init : goal.loop-i-init

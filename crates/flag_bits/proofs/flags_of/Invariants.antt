@@ -1,10 +1,8 @@
-use Prim.Native.Nat.{◌+◌, ◌-◌, ◌≤◌}
-use native.Mathlib.Omega.{arith}
-use mathlib.Core.Path.{◌≡◌, refl, ◌∙◌}
+use Prim.Native.Nat.{◌-◌, ◌≤◌}
+use mathlib.Core.Path.{◌≡◌}
 use mathlib.Core.List.{◌++◌}
-use lib.ListN.{length, take, length-set}
-use borrow.Author.Rules.{rules}
-use Rattle.flag_bits.specs.Bits.{bits, flag_stored, all_stored}
+use lib.ListN.{length, take}
+use Rattle.flag_bits.specs.Bits.{bits}
 use Rattle.flag_bits.proofs.flags_of.Given as goal
 
 abbrev pub invariant-loop-i : goal.invariant-loop-i

@@ -1,8 +1,7 @@
 -- `flag_bits::number_in` meets its contract. The number so far is that of the flags from i on. Assumes nothing.
-use Prim.Native.Nat.{◌-◌, ◌^◌, ◌≤◌, ◌<◌}
+use Prim.Native.Nat.{◌^◌, ◌<◌}
 use native.Mathlib.Omega.{arith}
 use mathlib.Core.Path.{◌≡◌}
-use lib.ListN.{length, drop}
 use borrow.Author.Rules.{rules}
 use Rattle.flag_bits.specs.Bits.{number, rest-fits, number_none, number_turn, bits_of_number}
 use Rattle.flag_bits.proofs.number_in.Goals as goal

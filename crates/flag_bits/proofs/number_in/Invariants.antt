@@ -1,9 +1,7 @@
-use Prim.Native.Nat.{◌-◌, ◌^◌, ◌≤◌, ◌<◌}
-use native.Mathlib.Omega.{arith}
+use Prim.Native.Nat.{◌≤◌}
 use mathlib.Core.Path.{◌≡◌}
 use lib.ListN.{length, drop}
-use borrow.Author.Rules.{rules}
-use Rattle.flag_bits.specs.Bits.{number, rest-fits, number_none, number_turn, bits_of_number}
+use Rattle.flag_bits.specs.Bits.{number}
 use Rattle.flag_bits.proofs.number_in.Given as goal
 
 abbrev pub invariant-loop-i : goal.invariant-loop-i

@@ -1,6 +1,5 @@
 -- `flag_bits::with_flag` meets its contract: the flag's bit is set by `|`, or the flag stays. Assumes nothing.
 use mathlib.Core.Path.{sym, ◌∙◌}
-use borrow.Author.Rules.{rules}
 use Rattle.flag_bits.specs.One.{bit_set, shifted, flag_stays, not_set}
 use Rattle.flag_bits.proofs.with_flag.Goals as goal
 

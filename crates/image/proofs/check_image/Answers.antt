@@ -15,17 +15,13 @@ use Rattle.image.specs.Ways as ways
 use borrow.Author.Rules.{rules}
 use Rattle.image.proofs.check_image.Goals as goal
 
-shaped : (c : goal.Else-not-shaped) → shape c.args.s.now ≡ true
-shaped c = sym c.is_shaped-shaped.ensures ∙ c.if-not-shaped.false
-
-laid : (c : goal.In-Accepted) → layout_check tier_check c.args.s.now ≡ 0
-laid c = sym c.check_layout-laid.ensures ∙ accepted c.in-Accepted.is
-
 pub returns-then-not-shaped : goal.returns-then-not-shaped
 returns-then-not-shaped c = ways.open_shape c.args.s.now (sym c.is_shaped-shaped.ensures ∙ c.if-not-shaped.true)
 
 pub check_layout-laid-requires : goal.check_layout-laid-requires
-check_layout-laid-requires c = shaped c
+check_layout-laid-requires c =
+    let shaped : shape c.args.s.now ≡ true = sym c.is_shaped-shaped.ensures ∙ c.if-not-shaped.false in
+    shaped
 
 pub returns-in_default : goal.returns-in_default
 returns-in_default c =
@@ -58,17 +54,22 @@ is_placed-placed-requires c =
 
 pub returns-then-not-right : goal.returns-then-not-right
 returns-then-not-right c =
-    let laid : layout_check tier_check c.args.s.now ≡ 0 = sym c.check_layout-laid.ensures ∙ accepted c.in-Accepted.is in
-    let long : c.length_of-l.result ≡ image_length c.args.s.now = let f = ways.layout_fits c.args.s.now tier_check laid in omega arith in
-    let placed_as : ways.right c.args.s.now ≡ eqb c.get_u64-total.result c.length_of-l.result && c.is_placed-placed.result && leb c.length_of-l.result (length c.args.s.now) = ways.right_is c.args.s.now c.get_u32-n.ensures.0 c.get_u64-total.ensures long c.is_placed-placed.ensures in
     let shaped : shape c.args.s.now ≡ true = sym c.is_shaped-shaped.ensures ∙ c.if-not-shaped.false in
+    let laid : layout_check tier_check c.args.s.now ≡ 0 = sym c.check_layout-laid.ensures ∙ accepted c.in-Accepted.is in
+    let long : c.length_of-l.result ≡ image_length c.args.s.now =
+    let f = ways.layout_fits c.args.s.now tier_check laid in
+    omega arith in
+    let placed_as : ways.right c.args.s.now ≡ eqb c.get_u64-total.result c.length_of-l.result && c.is_placed-placed.result && leb c.length_of-l.result (length c.args.s.now) =
+    ways.right_is c.args.s.now c.get_u32-n.ensures.0 c.get_u64-total.ensures long c.is_placed-placed.ensures in
     ways.open_places c.args.s.now shaped laid (placed_as ∙ c.if-not-right.true)
 
 pub slabs_sound-sound-requires : goal.slabs_sound-sound-requires
 slabs_sound-sound-requires c =
-    let laid : layout_check tier_check c.args.s.now ≡ 0 = sym c.check_layout-laid.ensures ∙ accepted c.in-Accepted.is in
-    let long : c.length_of-l.result ≡ image_length c.args.s.now = let f = ways.layout_fits c.args.s.now tier_check laid in omega arith in
     let shaped : shape c.args.s.now ≡ true = sym c.is_shaped-shaped.ensures ∙ c.if-not-shaped.false in
+    let laid : layout_check tier_check c.args.s.now ≡ 0 = sym c.check_layout-laid.ensures ∙ accepted c.in-Accepted.is in
+    let long : c.length_of-l.result ≡ image_length c.args.s.now =
+    let f = ways.layout_fits c.args.s.now tier_check laid in
+    omega arith in
     let s = c.args.s.now in
     let z = sizes s shaped in
     let f = ways.layout_fits s tier_check laid in
@@ -80,10 +81,14 @@ pub returns-then-not-sound : goal.returns-then-not-sound
 unfolding row_count
 returns-then-not-sound c =
     let laid : layout_check tier_check c.args.s.now ≡ 0 = sym c.check_layout-laid.ensures ∙ accepted c.in-Accepted.is in
-    let long : c.length_of-l.result ≡ image_length c.args.s.now = let f = ways.layout_fits c.args.s.now tier_check laid in omega arith in
-    let placed_as : ways.right c.args.s.now ≡ eqb c.get_u64-total.result c.length_of-l.result && c.is_placed-placed.result && leb c.length_of-l.result (length c.args.s.now) = ways.right_is c.args.s.now c.get_u32-n.ensures.0 c.get_u64-total.ensures long c.is_placed-placed.ensures in
+    let long : c.length_of-l.result ≡ image_length c.args.s.now =
+    let f = ways.layout_fits c.args.s.now tier_check laid in
+    omega arith in
+    let placed_as : ways.right c.args.s.now ≡ eqb c.get_u64-total.result c.length_of-l.result && c.is_placed-placed.result && leb c.length_of-l.result (length c.args.s.now) =
+    ways.right_is c.args.s.now c.get_u32-n.ensures.0 c.get_u64-total.ensures long c.is_placed-placed.ensures in
     let right : ways.right c.args.s.now ≡ true = placed_as ∙ c.if-not-right.false in
-    let slabs : sound_all c.args.s.now (rows_to c.args.s.now (row_count c.args.s.now) 0) ≡ c.slabs_sound-sound.result = ap (λ n. sound_all c.args.s.now (rows_to c.args.s.now n 0)) (sym c.get_u32-n.ensures.0) ∙ sym c.slabs_sound-sound.ensures in
+    let slabs : sound_all c.args.s.now (rows_to c.args.s.now (row_count c.args.s.now) 0) ≡ c.slabs_sound-sound.result =
+    ap (λ n. sound_all c.args.s.now (rows_to c.args.s.now n 0)) (sym c.get_u32-n.ensures.0) ∙ sym c.slabs_sound-sound.ensures in
     let shaped : shape c.args.s.now ≡ true = sym c.is_shaped-shaped.ensures ∙ c.if-not-shaped.false in
     ways.open_slabs c.args.s.now shaped laid right (slabs ∙ c.if-not-sound.true)
 
@@ -91,9 +96,13 @@ pub returns : goal.returns
 unfolding row_count
 returns c =
     let laid : layout_check tier_check c.args.s.now ≡ 0 = sym c.check_layout-laid.ensures ∙ accepted c.in-Accepted.is in
-    let long : c.length_of-l.result ≡ image_length c.args.s.now = let f = ways.layout_fits c.args.s.now tier_check laid in omega arith in
-    let placed_as : ways.right c.args.s.now ≡ eqb c.get_u64-total.result c.length_of-l.result && c.is_placed-placed.result && leb c.length_of-l.result (length c.args.s.now) = ways.right_is c.args.s.now c.get_u32-n.ensures.0 c.get_u64-total.ensures long c.is_placed-placed.ensures in
+    let long : c.length_of-l.result ≡ image_length c.args.s.now =
+    let f = ways.layout_fits c.args.s.now tier_check laid in
+    omega arith in
+    let placed_as : ways.right c.args.s.now ≡ eqb c.get_u64-total.result c.length_of-l.result && c.is_placed-placed.result && leb c.length_of-l.result (length c.args.s.now) =
+    ways.right_is c.args.s.now c.get_u32-n.ensures.0 c.get_u64-total.ensures long c.is_placed-placed.ensures in
     let right : ways.right c.args.s.now ≡ true = placed_as ∙ c.if-not-right.false in
-    let slabs : sound_all c.args.s.now (rows_to c.args.s.now (row_count c.args.s.now) 0) ≡ c.slabs_sound-sound.result = ap (λ n. sound_all c.args.s.now (rows_to c.args.s.now n 0)) (sym c.get_u32-n.ensures.0) ∙ sym c.slabs_sound-sound.ensures in
+    let slabs : sound_all c.args.s.now (rows_to c.args.s.now (row_count c.args.s.now) 0) ≡ c.slabs_sound-sound.result =
+    ap (λ n. sound_all c.args.s.now (rows_to c.args.s.now n 0)) (sym c.get_u32-n.ensures.0) ∙ sym c.slabs_sound-sound.ensures in
     let shaped : shape c.args.s.now ≡ true = sym c.is_shaped-shaped.ensures ∙ c.if-not-shaped.false in
     ways.open_all c.args.s.now shaped laid right (slabs ∙ c.if-not-sound.false)

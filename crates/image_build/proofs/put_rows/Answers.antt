@@ -37,9 +37,9 @@ put_row-requires c =
 pub overflow_add-at-in-loop-i : goal.overflow_add-at-in-loop-i
 overflow_add-at-in-loop-i c =
     let len_is : c.row_length-len.result ≡ row_length (row_at c.args.plan.now c.loop-i.i) =
-        let l = c.loop-i in
-        let m = ends_more c.args.plan.now c.args.n l.i c.loop-i-test.true l.at in
-        omega (arith, c.row_length-len.ensures, ap row_length c.row_at-r.ensures, m, l.invariant.ends_low) in
+    let l = c.loop-i in
+    let m = ends_more c.args.plan.now c.args.n l.i c.loop-i-test.true l.at in
+    omega (arith, c.row_length-len.ensures, ap row_length c.row_at-r.ensures, m, l.invariant.ends_low) in
     let l = c.loop-i in
     omega (arith, len_is, ends_more c.args.plan.now c.args.n l.i c.loop-i-test.true l.at, l.invariant.ends_low)
 
@@ -52,12 +52,12 @@ loop-i-smaller c = omega (arith, c.loop-i-test.true)
 pub loop-i-preserved : goal.loop-i-preserved
 loop-i-preserved c =
     let put_is : c.put_row.new.row ≡ row_bytes (placed_row (row_at c.args.plan.now c.loop-i.i) c.loop-i.at) =
-        let at = c.loop-i.at in
-        c.put_row.ensures ∙ ap row_bytes (c.placed_row-q.ensures ∙ ap (λ r. placed_row r at) c.row_at-r.ensures) in
+    let at = c.loop-i.at in
+    c.put_row.ensures ∙ ap row_bytes (c.placed_row-q.ensures ∙ ap (λ r. placed_row r at) c.row_at-r.ensures) in
     let len_is : c.row_length-len.result ≡ row_length (row_at c.args.plan.now c.loop-i.i) =
-        let l = c.loop-i in
-        let m = ends_more c.args.plan.now c.args.n l.i c.loop-i-test.true l.at in
-        omega (arith, c.row_length-len.ensures, ap row_length c.row_at-r.ensures, m, l.invariant.ends_low) in
+    let l = c.loop-i in
+    let m = ends_more c.args.plan.now c.args.n l.i c.loop-i-test.true l.at in
+    omega (arith, c.row_length-len.ensures, ap row_length c.row_at-r.ensures, m, l.invariant.ends_low) in
     let rows_in : 32 + 64 * c.args.n ≤ length c.loop-i.image = omega (arith, c.loop-i.invariant.same-long, c.requires.n_bound_2.1) in
     let l = c.loop-i in
     let n = c.args.n in

@@ -43,8 +43,8 @@ pub fresh_slab-requires : goal.fresh_slab-requires
 unfolding row_length
 fresh_slab-requires c =
     let fits : let a = c.args in (c.row_length-len.result ≡ row_length c.row_at-r.result) × (c.loop-i.at + c.row_length-len.result ≤ length a.image.now) =
-        let l = c.loop-i in
-        slabs_fit c.args.plan.now c.args.n l.i c.loop-i-test.true l.at _ (length c.args.image.now) c.row_at-r.ensures c.row_length-len.ensures l.invariant.same_end c.requires.n_bound_2.0 c.requires.n_bound_2.1 in
+    let l = c.loop-i in
+    slabs_fit c.args.plan.now c.args.n l.i c.loop-i-test.true l.at _ (length c.args.image.now) c.row_at-r.ensures c.row_length-len.ensures l.invariant.same_end c.requires.n_bound_2.0 c.requires.n_bound_2.1 in
     let slab_in : let l = c.loop-i in l.at + c.row_length-len.result ≤ length l.image = omega (arith, fits.1, c.loop-i.invariant.same-long) in
     let l = c.loop-i in
     let slots = ap (λ n. slab_length n c.row_at-r.result.series) (sym c.row_slots-slots.ensures) in
@@ -59,13 +59,13 @@ loop-i-smaller c = omega (arith, c.loop-i-test.true)
 pub loop-i-preserved : goal.loop-i-preserved
 loop-i-preserved c =
     let filled_is : c.fresh_slab.new.slab ≡ fresh_of (row_at c.args.plan.now c.loop-i.i) =
-        let e = c.row_at-r.ensures in
-        let n = c.row_slots-slots.ensures in
-        let f = c.fresh_slab.ensures in
-        cc in
+    let e = c.row_at-r.ensures in
+    let n = c.row_slots-slots.ensures in
+    let f = c.fresh_slab.ensures in
+    cc in
     let fits : let a = c.args in (c.row_length-len.result ≡ row_length c.row_at-r.result) × (c.loop-i.at + c.row_length-len.result ≤ length a.image.now) =
-        let l = c.loop-i in
-        slabs_fit c.args.plan.now c.args.n l.i c.loop-i-test.true l.at _ (length c.args.image.now) c.row_at-r.ensures c.row_length-len.ensures l.invariant.same_end c.requires.n_bound_2.0 c.requires.n_bound_2.1 in
+    let l = c.loop-i in
+    slabs_fit c.args.plan.now c.args.n l.i c.loop-i-test.true l.at _ (length c.args.image.now) c.row_at-r.ensures c.row_length-len.ensures l.invariant.same_end c.requires.n_bound_2.0 c.requires.n_bound_2.1 in
     let len_is : c.row_length-len.result ≡ row_length (row_at c.args.plan.now c.loop-i.i) = fits.0 ∙ ap row_length c.row_at-r.ensures in
     let slab_in : let l = c.loop-i in l.at + c.row_length-len.result ≤ length l.image = omega (arith, fits.1, c.loop-i.invariant.same-long) in
     let l = c.loop-i in

@@ -35,7 +35,9 @@ pub overflow_add-i : goal.overflow_add-i
 overflow_add-i c = omega (arith, c.loop-i.invariant.in_rows)
 
 pub returns-then-i-n : goal.returns-then-i-n
-returns-then-i-n c = λ e. (subst (All c.args.s.now c.args.n) (eq_is c.loop-i.at c.args.total e) (all_are c.args.s.now c.args.n c.loop-i.i c.loop-i.at c.requires.begins.0.begun.start c.loop-i.invariant.joins (omega (arith, c.if-i-n.true)) (only_ends c.args.s.now c.loop-i.i c.loop-i.invariant.only c.requires.begins.1) c.loop-i.invariant.placed))
+returns-then-i-n c = λ e. (subst (All c.args.s.now c.args.n) (eq_is c.loop-i.at c.args.total e)
+    (all_are c.args.s.now c.args.n c.loop-i.i c.loop-i.at c.requires.begins.0.begun.start c.loop-i.invariant.joins (omega (arith, c.if-i-n.true))
+    (only_ends c.args.s.now c.loop-i.i c.loop-i.invariant.only c.requires.begins.1) c.loop-i.invariant.placed))
 
 pub returns-then-at-top : goal.returns-then-at-top
 returns-then-at-top c = λ e. absurd (false≢true e)
@@ -88,4 +90,5 @@ loop-i-preserved c =
     }
 
 pub returns : goal.returns
-returns c = λ e. (subst (All c.args.s.now c.args.n) (eq_is c.loop-i.at c.args.total e) (all_are c.args.s.now c.args.n c.loop-i.i c.loop-i.at c.requires.begins.0.begun.start c.loop-i.invariant.joins (omega (arith, c.loop-i.invariant.in_rows)) (only_ends c.args.s.now c.loop-i.i c.loop-i.invariant.only c.requires.begins.1) c.loop-i.invariant.placed))
+returns c = λ e. (subst (All c.args.s.now c.args.n) (eq_is c.loop-i.at c.args.total e) (all_are c.args.s.now c.args.n c.loop-i.i c.loop-i.at c.requires.begins.0.begun.start
+    c.loop-i.invariant.joins (omega (arith, c.loop-i.invariant.in_rows)) (only_ends c.args.s.now c.loop-i.i c.loop-i.invariant.only c.requires.begins.1) c.loop-i.invariant.placed))

@@ -26,10 +26,10 @@ unfolding row_count total_length
 begins-begun-requires c =
     let head : Head c.args.s.now = c.head_good-headed.ensures c.if-not-headed.false in
     let sized : (c.get_u32-n.result ≡ row_count c.args.s.now) × (96 + 64 * c.get_u32-n.result ≤ c.get_u64-total.result) × (c.get_u64-total.result ≤ length c.args.s.now) × (c.get_u64-total.result ≤ 1099511627776) =
-        let h = head in
-        let n = c.get_u32-n.ensures.0 in
-        let t = c.get_u64-total.ensures in
-        (n, omega (arith, h.head-low, n, t), omega (arith, h.fits, t), omega (arith, h.total_low, t)) in
+    let h = head in
+    let n = c.get_u32-n.ensures.0 in
+    let t = c.get_u64-total.ensures in
+    (n, omega (arith, h.head-low, n, t), omega (arith, h.fits, t), omega (arith, h.total_low, t)) in
     let r = sized in (c.get_u32-n.ensures.1, omega (arith, r.1, r.2))
 
 pub returns-in_default : goal.returns-in_default
@@ -45,10 +45,10 @@ unfolding schemas row_count total_length
 few_good-requires c =
     let head : Head c.args.s.now = c.head_good-headed.ensures c.if-not-headed.false in
     let sized : (c.get_u32-n.result ≡ row_count c.args.s.now) × (96 + 64 * c.get_u32-n.result ≤ c.get_u64-total.result) × (c.get_u64-total.result ≤ length c.args.s.now) × (c.get_u64-total.result ≤ 1099511627776) =
-        let h = head in
-        let n = c.get_u32-n.ensures.0 in
-        let t = c.get_u64-total.ensures in
-        (n, omega (arith, h.head-low, n, t), omega (arith, h.fits, t), omega (arith, h.total_low, t)) in
+    let h = head in
+    let n = c.get_u32-n.ensures.0 in
+    let t = c.get_u64-total.ensures in
+    (n, omega (arith, h.head-low, n, t), omega (arith, h.fits, t), omega (arith, h.total_low, t)) in
     let r = sized in
     record { n_nonzero = (c.if-n-gt0.true, c.if-n-le4.true, r.0, r.1, r.2, r.3); begins = ((good-is (Begins c.args.s.now (32 + 64 * c.get_u32-n.result)) c.in-Good.is c.begins-begun.ensures), sym c.get_u32-schemas.ensures.0 ∙ c.if-schemas-eq1.true) }
 
@@ -63,10 +63,10 @@ unfolding row_count total_length
 many_good-requires c =
     let head : Head c.args.s.now = c.head_good-headed.ensures c.if-not-headed.false in
     let sized : (c.get_u32-n.result ≡ row_count c.args.s.now) × (96 + 64 * c.get_u32-n.result ≤ c.get_u64-total.result) × (c.get_u64-total.result ≤ length c.args.s.now) × (c.get_u64-total.result ≤ 1099511627776) =
-        let h = head in
-        let n = c.get_u32-n.ensures.0 in
-        let t = c.get_u64-total.ensures in
-        (n, omega (arith, h.head-low, n, t), omega (arith, h.fits, t), omega (arith, h.total_low, t)) in
+    let h = head in
+    let n = c.get_u32-n.ensures.0 in
+    let t = c.get_u64-total.ensures in
+    (n, omega (arith, h.head-low, n, t), omega (arith, h.fits, t), omega (arith, h.total_low, t)) in
     record { n_value = sized; begins = (good-is (Begins c.args.s.now (32 + 64 * c.get_u32-n.result)) c.in-Good.is c.begins-begun.ensures) }
 
 pub returns : goal.returns

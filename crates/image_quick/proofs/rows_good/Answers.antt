@@ -45,9 +45,9 @@ ends-ended-requires c = omega (arith, c.loop-here.invariant.in_rows)
 pub returns-then-i-n : goal.returns-then-i-n
 returns-then-i-n c =
     let behind : Placed c.args.s.now (c.loop-here.i + 1) (c.loop-here.at + c.get_u64.result) =
-        let l = c.loop-here in
-        let here = l.invariant.here c.loop-here-test.true in
-        subst (λ (x : ℕ). Placed c.args.s.now (l.i + 1) (l.at + x)) (sym (len_is c.args.s.now l.i c.get_u64.ensures)) (placed_more c.args.s.now l.i l.at l.invariant.placed here) in
+    let l = c.loop-here in
+    let here = l.invariant.here c.loop-here-test.true in
+    subst (λ (x : ℕ). Placed c.args.s.now (l.i + 1) (l.at + x)) (sym (len_is c.args.s.now l.i c.get_u64.ensures)) (placed_more c.args.s.now l.i l.at l.invariant.placed here) in
     let l = c.loop-here in
     λ e. subst (All c.args.s.now c.args.n) (eq_is (c.loop-here.at + c.get_u64.result) c.args.total (and_right c.ends-ended.result _ e))
     (all_are c.args.s.now c.args.n l.i (c.loop-here.at + c.get_u64.result) c.requires.begins.begun.start l.invariant.joins (omega arith) (c.ends-ended.ensures (and_left c.ends-ended.result _ e)) behind)
@@ -76,9 +76,9 @@ loop-here-smaller c = omega (arith, c.loop-here.invariant.in_rows)
 pub loop-here-preserved : goal.loop-here-preserved
 loop-here-preserved c =
     let behind : Placed c.args.s.now (c.loop-here.i + 1) (c.loop-here.at + c.get_u64.result) =
-        let l = c.loop-here in
-        let here = l.invariant.here c.loop-here-test.true in
-        subst (λ (x : ℕ). Placed c.args.s.now (l.i + 1) (l.at + x)) (sym (len_is c.args.s.now l.i c.get_u64.ensures)) (placed_more c.args.s.now l.i l.at l.invariant.placed here) in
+    let l = c.loop-here in
+    let here = l.invariant.here c.loop-here-test.true in
+    subst (λ (x : ℕ). Placed c.args.s.now (l.i + 1) (l.at + x)) (sym (len_is c.args.s.now l.i c.get_u64.ensures)) (placed_more c.args.s.now l.i l.at l.invariant.placed here) in
     let l = c.loop-here in
     let next = good-is (Joined c.args.s.now l.i) c.in-Good.is c.joins-next.ensures in
     record {

@@ -25,14 +25,14 @@ stamps_at-stamps-requires c = omega (arith, c.requires.1)
 pub overflow_mul-n : goal.overflow_mul-n
 overflow_mul-n c =
     let cells_fit : c.wrapping_sub_u64-n.result * (8 * c.args.p.series + 8) ≤ 134_217_728 * (8 * c.args.p.series + 8) =
-        mul-le-mul_right (8 * c.args.p.series + 8) (omega (arith, c.if-n-ge134217728.false)) in
+    mul-le-mul_right (8 * c.args.p.series + 8) (omega (arith, c.if-n-ge134217728.false)) in
     omega (arith, cells_fit, c.requires.1)
 
 pub overflow_add-n : goal.overflow_add-n
 unfolding stamps_at stamps_behind directory
 overflow_add-n c =
     let cells_fit : c.wrapping_sub_u64-n.result * (8 * c.args.p.series + 8) ≤ 134_217_728 * (8 * c.args.p.series + 8) =
-        mul-le-mul_right (8 * c.args.p.series + 8) (omega (arith, c.if-n-ge134217728.false)) in
+    mul-le-mul_right (8 * c.args.p.series + 8) (omega (arith, c.if-n-ge134217728.false)) in
     omega (arith, cells_fit, c.stamps_at-stamps.ensures, c.requires.1)
 
 pub returns-then-r-n : goal.returns-then-r-n

@@ -16,18 +16,27 @@ pub loop-i-init : goal.loop-i-init
 loop-i-init c = record { in_rows = omega arith; ends_low = c.requires.n_bound_2; tested = refl }
 
 pub overflow_add-at-in-loop-i : goal.overflow_add-at-in-loop-i
-overflow_add-at-in-loop-i c = omega (arith, (let it : c.row_length-l.result ≡ row_length (row_at c.args.s.now c.loop-i.i) = omega (arith, c.row_length-l.ensures, ap row_length c.row_at-r.ensures, (let it : let l = c.loop-i in l.at + row_length (row_at c.args.s.now l.i) ≤ 1099511627776 = let l = c.loop-i in omega (arith, ends_more c.args.s.now c.args.n l.i c.loop-i-test.true l.at, l.invariant.ends_low) in it)) in it), (let it : let l = c.loop-i in l.at + row_length (row_at c.args.s.now l.i) ≤ 1099511627776 = let l = c.loop-i in omega (arith, ends_more c.args.s.now c.args.n l.i c.loop-i-test.true l.at, l.invariant.ends_low) in it))
+overflow_add-at-in-loop-i c =
+    let more : let l = c.loop-i in l.at + row_length (row_at c.args.s.now l.i) ≤ 1099511627776 =
+    let l = c.loop-i in
+    omega (arith, ends_more c.args.s.now c.args.n l.i c.loop-i-test.true l.at, l.invariant.ends_low) in
+    let len_is : c.row_length-l.result ≡ row_length (row_at c.args.s.now c.loop-i.i) = omega (arith, c.row_length-l.ensures, ap row_length c.row_at-r.ensures, more) in
+    omega (arith, len_is, more)
 
 pub loop-i-preserved : goal.loop-i-preserved
 loop-i-preserved c =
+    let more : let l = c.loop-i in l.at + row_length (row_at c.args.s.now l.i) ≤ 1099511627776 =
+    let l = c.loop-i in
+    omega (arith, ends_more c.args.s.now c.args.n l.i c.loop-i-test.true l.at, l.invariant.ends_low) in
+    let len_is : c.row_length-l.result ≡ row_length (row_at c.args.s.now c.loop-i.i) = omega (arith, c.row_length-l.ensures, ap row_length c.row_at-r.ensures, more) in
     let l = c.loop-i in
     let n = c.args.n in
     let t = c.loop-i-test.true in
     let r = c.row_at-r in
     record {
       in_rows = omega (arith, t);
-      ends_low = rw ((let it : c.row_length-l.result ≡ row_length (row_at c.args.s.now c.loop-i.i) = omega (arith, c.row_length-l.ensures, ap row_length c.row_at-r.ensures, (let it : let l = c.loop-i in l.at + row_length (row_at c.args.s.now l.i) ≤ 1099511627776 = let l = c.loop-i in omega (arith, ends_more c.args.s.now c.args.n l.i c.loop-i-test.true l.at, l.invariant.ends_low) in it)) in it), ← ends_on c.args.s.now n l.i t l.at) l.invariant.ends_low;
-      tested = placed_more c.args.s.now n l.i l.at t l.good r.result c.row_length-l.result r.ensures ((let it : c.row_length-l.result ≡ row_length (row_at c.args.s.now c.loop-i.i) = omega (arith, c.row_length-l.ensures, ap row_length c.row_at-r.ensures, (let it : let l = c.loop-i in l.at + row_length (row_at c.args.s.now l.i) ≤ 1099511627776 = let l = c.loop-i in omega (arith, ends_more c.args.s.now c.args.n l.i c.loop-i-test.true l.at, l.invariant.ends_low) in it)) in it)) ∙ l.invariant.tested;
+      ends_low = rw (len_is, ← ends_on c.args.s.now n l.i t l.at) l.invariant.ends_low;
+      tested = placed_more c.args.s.now n l.i l.at t l.good r.result c.row_length-l.result r.ensures len_is ∙ l.invariant.tested;
     }
 
 pub returns : goal.returns

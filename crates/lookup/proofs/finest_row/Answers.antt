@@ -19,10 +19,18 @@ pub row_u32-series-requires : goal.row_u32-series-requires
 row_u32-series-requires c = record { image_value = c.requires; row_bound = (c.loop-series.invariant.in_rows, omega arith) }
 
 pub returns-then-column-series : goal.returns-then-column-series
-returns-then-column-series c = sym (finest_wide _ c.requires _ _ _ ((let it : (c.loop-series.i ≡ first_row c.args.schema (rows c.args.image.now)) = let i = c.loop-series.invariant in found i.finding i.in_rows c.row_u32-s.ensures.0 c.if-s-schema.true in it)) _ c.loop-series.invariant.in_rows c.row_u32-series.ensures.0 c.if-column-series.true)
+returns-then-column-series c =
+    let here : (c.loop-series.i ≡ first_row c.args.schema (rows c.args.image.now)) =
+    let i = c.loop-series.invariant in
+    found i.finding i.in_rows c.row_u32-s.ensures.0 c.if-s-schema.true in
+    sym (finest_wide _ c.requires _ _ _ here _ c.loop-series.invariant.in_rows c.row_u32-series.ensures.0 c.if-column-series.true)
 
 pub returns-then-s-schema : goal.returns-then-s-schema
-returns-then-s-schema c = sym (finest-at _ c.requires _ _ _ ((let it : (c.loop-series.i ≡ first_row c.args.schema (rows c.args.image.now)) = let i = c.loop-series.invariant in found i.finding i.in_rows c.row_u32-s.ensures.0 c.if-s-schema.true in it)) _ c.loop-series.invariant.in_rows c.row_u32-series.ensures.0 c.if-column-series.false)
+returns-then-s-schema c =
+    let here : (c.loop-series.i ≡ first_row c.args.schema (rows c.args.image.now)) =
+    let i = c.loop-series.invariant in
+    found i.finding i.in_rows c.row_u32-s.ensures.0 c.if-s-schema.true in
+    sym (finest-at _ c.requires _ _ _ here _ c.loop-series.invariant.in_rows c.row_u32-series.ensures.0 c.if-column-series.false)
 
 pub overflow_add-i : goal.overflow_add-i
 overflow_add-i c = omega (arith, c.loop-series.invariant.in_rows, few_rows _ c.requires)
@@ -33,8 +41,11 @@ get_u32-count-requires c = omega (arith, header_in_slice _ c.requires)
 pub returns-then-i-count : goal.returns-then-i-count
 unfolding row_count
 returns-then-i-count c =
+    let behind : (Finding c.args.image.now c.args.schema (row_count c.args.image.now) (c.loop-series.i + 1)) =
+    let i = c.loop-series.invariant in
+    goes_on i.finding i.in_rows c.row_u32-s.ensures.0 c.if-s-schema.false in
     let past = c.if-i-count.true ∙ c.get_u32-count.ensures.0 in
-    sym (finest_none _ c.requires _ _ _ (ends ((let it : (Finding c.args.image.now c.args.schema (row_count c.args.image.now) (c.loop-series.i + 1)) = let i = c.loop-series.invariant in goes_on i.finding i.in_rows c.row_u32-s.ensures.0 c.if-s-schema.false in it)) (omega (arith, past))) (omega (arith, past)))
+    sym (finest_none _ c.requires _ _ _ (ends behind (omega (arith, past))) (omega (arith, past)))
 
 pub loop-series-smaller : goal.loop-series-smaller
 loop-series-smaller c = omega (arith, c.loop-series.invariant.in_rows)
@@ -42,4 +53,7 @@ loop-series-smaller c = omega (arith, c.loop-series.invariant.in_rows)
 pub loop-series-preserved : goal.loop-series-preserved
 unfolding row_count
 loop-series-preserved c =
-    let b = (let it : (Finding c.args.image.now c.args.schema (row_count c.args.image.now) (c.loop-series.i + 1)) = let i = c.loop-series.invariant in goes_on i.finding i.in_rows c.row_u32-s.ensures.0 c.if-s-schema.false in it) in record { in_rows = omega (arith, b.in_bounds, c.if-i-count.false, c.get_u32-count.ensures.0); finding = b }
+    let behind : (Finding c.args.image.now c.args.schema (row_count c.args.image.now) (c.loop-series.i + 1)) =
+    let i = c.loop-series.invariant in
+    goes_on i.finding i.in_rows c.row_u32-s.ensures.0 c.if-s-schema.false in
+    let b = behind in record { in_rows = omega (arith, b.in_bounds, c.if-i-count.false, c.get_u32-count.ensures.0); finding = b }

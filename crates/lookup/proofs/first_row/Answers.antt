@@ -1,9 +1,7 @@
 -- `lookup::first_row` meets its contract. The loop's invariant: the first row is the first of those from row i on. Assumes nothing.
-use Prim.Native.Nat.{◌-◌}
 use native.Mathlib.Omega.{arith}
 use Rattle.model.specs.Image.{row_count}
-use Rattle.lookup.proofs.Laws.{header_in_slice, Finding, begins, goes_on, found, ends}
-use borrow.Author.Rules.{rules}
+use Rattle.lookup.proofs.Laws.{header_in_slice, begins, goes_on, found, ends}
 use Rattle.lookup.proofs.first_row.Goals as goal
 
 pub get_u32-count-requires : goal.get_u32-count-requires

@@ -1,8 +1,5 @@
 use Prim.Native.Nat.{◌-◌}
-use native.Mathlib.Omega.{arith}
-use Rattle.model.specs.Image.{row_count}
-use Rattle.lookup.proofs.Laws.{header_in_slice, Finding, begins, goes_on, found, ends}
-use borrow.Author.Rules.{rules}
+use Rattle.lookup.proofs.Laws.{Finding}
 use Rattle.lookup.proofs.first_row.Given as goal
 
 abbrev pub invariant-loop-i : goal.invariant-loop-i

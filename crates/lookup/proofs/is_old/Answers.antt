@@ -4,7 +4,6 @@ use mathlib.Core.List.{List}
 use mathlib.Core.Path.{ap, ◌∙◌}
 use Rattle.model.specs.Ring.{is_old}
 use Rattle.lookup.proofs.Laws.{starts-before, part-is, part_sound}
-use borrow.Author.Rules.{rules}
 use Rattle.lookup.proofs.is_old.Goals as goal
 
 pub slice_bounds-is_old-count : goal.slice_bounds-is_old-count

@@ -1,11 +1,6 @@
 -- `lookup::slab_at` meets its contract: row and slab lie within the slice, and the slab's header agrees with the row. Assumes nothing.
-use Prim.Native.Nat.{◌+◌, ◌≤◌}
 use native.Mathlib.Omega.{arith}
-use lib.ListN.{length}
-use Rattle.model.specs.Bytes.{get}
-use Rattle.model.specs.Image.{row_place}
 use Rattle.lookup.proofs.Laws.{slab-long, slab-inside, slab-is}
-use borrow.Author.Rules.{rules}
 use Rattle.lookup.proofs.slab_at.Goals as goal
 
 pub overflow_add-from : goal.overflow_add-from

@@ -22,22 +22,22 @@ row_at-r-requires c = left.row_in _ c.requires.0 c.requires.1 c.loop-i-test.true
 pub overflow_add-end : goal.overflow_add-end
 overflow_add-end c =
     let slab : left.Handed c.args.s.now c.row_at-r.result =
-        let pre = c.requires in
-        left.handed _ pre.0 pre.1 c.loop-i-test.true c.row_at-r.ensures in
+    let pre = c.requires in
+    left.handed _ pre.0 pre.1 c.loop-i-test.true c.row_at-r.ensures in
     omega (arith, slab.inside)
 
 pub slice_bounds-wrap_flag-end : goal.slice_bounds-wrap_flag-end
 slice_bounds-wrap_flag-end c =
     let slab : left.Handed c.args.s.now c.row_at-r.result =
-        let pre = c.requires in
-        left.handed _ pre.0 pre.1 c.loop-i-test.true c.row_at-r.ensures in
+    let pre = c.requires in
+    left.handed _ pre.0 pre.1 c.loop-i-test.true c.row_at-r.ensures in
     omega (arith, slab.inside)
 
 pub wrap_flag-flag-requires : goal.wrap_flag-flag-requires
 wrap_flag-flag-requires c =
     let slab : left.Handed c.args.s.now c.row_at-r.result =
-        let pre = c.requires in
-        left.handed _ pre.0 pre.1 c.loop-i-test.true c.row_at-r.ensures in
+    let pre = c.requires in
+    left.handed _ pre.0 pre.1 c.loop-i-test.true c.row_at-r.ensures in
     rw c.row_slots-slots.ensures slab.slab-sized
 
 pub bounds-next-i : goal.bounds-next-i

@@ -10,15 +10,15 @@ use Rattle.pair.proofs.fill_pair.Goals as goal
 pub overflow_add-row : goal.overflow_add-row
 overflow_add-row c =
     let low : suc c.args.row < 32 =
-        let a = c.args in
-        row_low a.image.now a.row c.requires.adjacent in
+    let a = c.args in
+    row_low a.image.now a.row c.requires.adjacent in
     omega (arith, low)
 
 pub flag-wrapped-requires : goal.flag-wrapped-requires
 flag-wrapped-requires c =
     let low : suc c.args.row < 32 =
-        let a = c.args in
-        row_low a.image.now a.row c.requires.adjacent in
+    let a = c.args in
+    row_low a.image.now a.row c.requires.adjacent in
     omega (arith, low)
 
 pub fill_pair-passed-requires : goal.fill_pair-passed-requires
@@ -28,15 +28,15 @@ fill_pair-passed-requires c =
 pub overflow_add-row-2 : goal.overflow_add-row-2
 overflow_add-row-2 c =
     let low : suc c.args.row < 32 =
-        let a = c.args in
-        row_low a.image.now a.row c.requires.adjacent in
+    let a = c.args in
+    row_low a.image.now a.row c.requires.adjacent in
     omega (arith, low)
 
 pub with_flag-after-requires : goal.with_flag-after-requires
 with_flag-after-requires c =
     let low : suc c.args.row < 32 =
-        let a = c.args in
-        row_low a.image.now a.row c.requires.adjacent in
+    let a = c.args in
+    row_low a.image.now a.row c.requires.adjacent in
     omega (arith, low)
 
 pub move_mark-requires : goal.move_mark-requires

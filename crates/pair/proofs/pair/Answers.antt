@@ -26,8 +26,8 @@ row_at-next-requires c =
 pub returns-in_default : goal.returns-in_default
 returns-in_default c =
     let function : let a = c.args in c.function_of-function.result ≡ function_no (row_at a.image.now (suc a.row)).function =
-        let a = c.args in
-        function_is a.image.now a.row c.row_at-next.ensures c.function_of-function.ensures in
+    let a = c.args in
+    function_is a.image.now a.row c.row_at-next.ensures c.function_of-function.ensures in
     let a = c.args in
     (no_function a.image.now a.u a.row function c.in_default.is, omega arith)
 
@@ -40,10 +40,10 @@ pub returns-then-not-good : goal.returns-then-not-good
 unfolding part
 returns-then-not-good c =
     let below : let a = c.args in let s = slab_of a.image.now (row_at a.image.now a.row) in stamps_below s 0 (slots s) ≡ c.stamps_below-good.result =
-        sym (stamps_part c.slab_at-d.ensures) ∙ sym c.stamps_below-good.ensures in
+    sym (stamps_part c.slab_at-d.ensures) ∙ sym c.stamps_below-good.ensures in
     let function : let a = c.args in c.function_of-function.result ≡ function_no (row_at a.image.now (suc a.row)).function =
-        let a = c.args in
-        function_is a.image.now a.row c.row_at-next.ensures c.function_of-function.ensures in
+    let a = c.args in
+    function_is a.image.now a.row c.row_at-next.ensures c.function_of-function.ensures in
     let a = c.args in
     (high_stamp a.image.now a.u a.row c.in-Some.f function c.in-Some.is (below ∙ c.if-not-good.true), omega arith)
 
@@ -51,17 +51,17 @@ pub fill_pair-requires : goal.fill_pair-requires
 unfolding part
 fill_pair-requires c =
     let below : let a = c.args in let s = slab_of a.image.now (row_at a.image.now a.row) in stamps_below s 0 (slots s) ≡ c.stamps_below-good.result =
-        sym (stamps_part c.slab_at-d.ensures) ∙ sym c.stamps_below-good.ensures in
+    sym (stamps_part c.slab_at-d.ensures) ∙ sym c.stamps_below-good.ensures in
     record { adjacent = c.requires.adjacent; row_value = (below ∙ c.if-not-good.false, c.requires.count_bound) }
 
 pub returns : goal.returns
 unfolding part
 returns c =
     let below : let a = c.args in let s = slab_of a.image.now (row_at a.image.now a.row) in stamps_below s 0 (slots s) ≡ c.stamps_below-good.result =
-        sym (stamps_part c.slab_at-d.ensures) ∙ sym c.stamps_below-good.ensures in
+    sym (stamps_part c.slab_at-d.ensures) ∙ sym c.stamps_below-good.ensures in
     let function : let a = c.args in c.function_of-function.result ≡ function_no (row_at a.image.now (suc a.row)).function =
-        let a = c.args in
-        function_is a.image.now a.row c.row_at-next.ensures c.function_of-function.ensures in
+    let a = c.args in
+    function_is a.image.now a.row c.row_at-next.ensures c.function_of-function.ensures in
     let a = c.args in (
       good-pair a.image.now a.u a.row c.in-Some.f function c.in-Some.is (below ∙ c.if-not-good.false)
           c.fill_pair.ensures.0,

@@ -36,11 +36,13 @@ fill_column-done-requires c =
 
 pub returns-in_default : goal.returns-in_default
 returns-in_default c =
-    let fills : let a = c.args in filled_in c.fill_column-done.new.image c.args.p c.fill_column-done.result ≡ write_answer (window_answer (pair_job c.args.image.now c.args.p) a.window c.loop-column.column) (filled_in c.loop-column.image c.args.p c.loop-column.done) a.window c.loop-column.column =
-        let a = c.args in
-        c.fill_column-done.ensures.result_after ∙ ap (λ (q : Job). write_answer (window_answer q a.window c.loop-column.column) (filled_in c.loop-column.image c.args.p c.loop-column.done) a.window c.loop-column.column) (job-kept c.args.image.now c.loop-column.image c.args.p c.loop-column.invariant.keeps) in
+    let fills : let a = c.args in filled_in c.fill_column-done.new.image c.args.p c.fill_column-done.result ≡ write_answer
+    (window_answer (pair_job c.args.image.now c.args.p) a.window c.loop-column.column) (filled_in c.loop-column.image c.args.p c.loop-column.done) a.window c.loop-column.column =
+    let a = c.args in
+    c.fill_column-done.ensures.result_after ∙ ap (λ (q : Job). write_answer (window_answer q a.window c.loop-column.column) (filled_in c.loop-column.image c.args.p c.loop-column.done)
+    a.window c.loop-column.column) (job-kept c.args.image.now c.loop-column.image c.args.p c.loop-column.invariant.keeps) in
     let kept : Keeps c.args.image.now c.fill_column-done.new.image c.args.p =
-        keeps_then c.args.image.now c.loop-column.image c.fill_column-done.new.image c.args.p c.requires.lies.0 c.loop-column.invariant.keeps c.fill_column-done.ensures.keeps.0 in
+    keeps_then c.args.image.now c.loop-column.image c.fill_column-done.new.image c.args.p c.requires.lies.0 c.loop-column.invariant.keeps c.fill_column-done.ensures.keeps.0 in
     let a = c.args in
     let last = column_last (pair_job a.image.now a.p) a.window (filled_in c.loop-column.image c.args.p c.loop-column.done) a.p.reading.series c.loop-column.column c.loop-column-test.true
     (ap outcome_no c.loop-column.invariant.fine) fills c.loop-column.invariant.left
@@ -49,11 +51,13 @@ returns-in_default c =
 
 pub loop-column-preserved : goal.loop-column-preserved
 loop-column-preserved c =
-    let fills : let a = c.args in filled_in c.fill_column-done.new.image c.args.p c.fill_column-done.result ≡ write_answer (window_answer (pair_job c.args.image.now c.args.p) a.window c.loop-column.column) (filled_in c.loop-column.image c.args.p c.loop-column.done) a.window c.loop-column.column =
-        let a = c.args in
-        c.fill_column-done.ensures.result_after ∙ ap (λ (q : Job). write_answer (window_answer q a.window c.loop-column.column) (filled_in c.loop-column.image c.args.p c.loop-column.done) a.window c.loop-column.column) (job-kept c.args.image.now c.loop-column.image c.args.p c.loop-column.invariant.keeps) in
+    let fills : let a = c.args in filled_in c.fill_column-done.new.image c.args.p c.fill_column-done.result ≡ write_answer
+    (window_answer (pair_job c.args.image.now c.args.p) a.window c.loop-column.column) (filled_in c.loop-column.image c.args.p c.loop-column.done) a.window c.loop-column.column =
+    let a = c.args in
+    c.fill_column-done.ensures.result_after ∙ ap (λ (q : Job). write_answer (window_answer q a.window c.loop-column.column) (filled_in c.loop-column.image c.args.p c.loop-column.done)
+    a.window c.loop-column.column) (job-kept c.args.image.now c.loop-column.image c.args.p c.loop-column.invariant.keeps) in
     let kept : Keeps c.args.image.now c.fill_column-done.new.image c.args.p =
-        keeps_then c.args.image.now c.loop-column.image c.fill_column-done.new.image c.args.p c.requires.lies.0 c.loop-column.invariant.keeps c.fill_column-done.ensures.keeps.0 in
+    keeps_then c.args.image.now c.loop-column.image c.fill_column-done.new.image c.args.p c.requires.lies.0 c.loop-column.invariant.keeps c.fill_column-done.ensures.keeps.0 in
     let a = c.args in
     record {
       column_in = omega arith;
@@ -67,5 +71,8 @@ loop-column-preserved c =
 pub returns : goal.returns
 returns c =
     let a = c.args in
-    let i = c.loop-column.invariant in record { result_after = columns_done (pair_job a.image.now a.p) a.window (filled_in c.loop-column.image a.p c.loop-column.done) c.loop-column.column
-          (a.p.reading.series - c.loop-column.column) (omega arith) i.left; keeps = (i.keeps, omega (arith, i.few)) }
+    let i = c.loop-column.invariant in record {
+      result_after = columns_done (pair_job a.image.now a.p) a.window (filled_in c.loop-column.image a.p c.loop-column.done) c.loop-column.column
+          (a.p.reading.series - c.loop-column.column) (omega arith) i.left;
+      keeps = (i.keeps, omega (arith, i.few));
+    }

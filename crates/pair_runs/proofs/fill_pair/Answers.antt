@@ -51,27 +51,27 @@ pub next_strand-k-requires : goal.next_strand-k-requires
 unfolding part
 next_strand-k-requires c =
     let whole : let a = c.args in WholeOrder (source_in a.image.now a.p) a.p.reading c.first_place-first.result =
-        let a = c.args in
-        let f = c.first_place-first.ensures in
-        first-whole (source_in a.image.now a.p) a.p.reading c.requires.lies.readable f.0 f.1 f.2 in
+    let a = c.args in
+    let f = c.first_place-first.ensures in
+    first-whole (source_in a.image.now a.p) a.p.reading c.requires.lies.readable f.0 f.1 f.2 in
     record { readable = c.loop-start.invariant.keeps.lies.readable; slot_lt_slots = (whole.slot_in, whole.few_left) }
 
 pub fill_runs-done-requires : goal.fill_runs-done-requires
 unfolding part
 fill_runs-done-requires c =
     let stranded : let p = c.args.p in Stranded (onward (pair_job c.loop-start.image p) c.loop-start.start) p.reading.slots c.first_place-first.result c.next_strand-k.result =
-        c.next_strand-k.ensures in
+    c.next_strand-k.ensures in
     let whole : let a = c.args in WholeOrder (source_in a.image.now a.p) a.p.reading c.first_place-first.result =
-        let a = c.args in
-        let f = c.first_place-first.ensures in
-        first-whole (source_in a.image.now a.p) a.p.reading c.requires.lies.readable f.0 f.1 f.2 in
+    let a = c.args in
+    let f = c.first_place-first.ensures in
+    first-whole (source_in a.image.now a.p) a.p.reading c.requires.lies.readable f.0 f.1 f.2 in
     let ends : c.next_strand-k.result.end ≤ c.args.p.reading.end =
-        let a = c.args in
-        end_low a.image.now c.loop-start.image a.p c.loop-start.start c.requires.lies c.loop-start.invariant.keeps whole stranded in
+    let a = c.args in
+    end_low a.image.now c.loop-start.image a.p c.loop-start.start c.requires.lies c.loop-start.invariant.keeps whole stranded in
     let few_writes : let a = c.args in c.loop-start.done.writes ≤ a.filling.writes + a.p.reading.series * a.p.reading.slots =
-        let a = c.args in
-        let q = onward (pair_job a.image.now a.p) c.loop-start.start in
-        writes_few a.image.now a.p c.requires.lies q (windows q) a.p.reading.series (filled_in c.loop-start.image a.p c.loop-start.done) (filled_in a.image.now a.p a.filling) c.loop-start.invariant.left in
+    let a = c.args in
+    let q = onward (pair_job a.image.now a.p) c.loop-start.start in
+    writes_few a.image.now a.p c.requires.lies q (windows q) a.p.reading.series (filled_in c.loop-start.image a.p c.loop-start.done) (filled_in a.image.now a.p a.filling) c.loop-start.invariant.left in
     let a = c.args in
     let i = c.loop-start.invariant in
     rw c.part_of-part.ensures (record {
@@ -84,41 +84,42 @@ pub overflow_add-strands : goal.overflow_add-strands
 unfolding part
 overflow_add-strands c =
     let whole : let a = c.args in WholeOrder (source_in a.image.now a.p) a.p.reading c.first_place-first.result =
-        let a = c.args in
-        let f = c.first_place-first.ensures in
-        first-whole (source_in a.image.now a.p) a.p.reading c.requires.lies.readable f.0 f.1 f.2 in
+    let a = c.args in
+    let f = c.first_place-first.ensures in
+    first-whole (source_in a.image.now a.p) a.p.reading c.requires.lies.readable f.0 f.1 f.2 in
     let stranded : let p = c.args.p in Stranded (onward (pair_job c.loop-start.image p) c.loop-start.start) p.reading.slots c.first_place-first.result c.next_strand-k.result =
-        c.next_strand-k.ensures in
+    c.next_strand-k.ensures in
     let ends : c.next_strand-k.result.end ≤ c.args.p.reading.end =
-        let a = c.args in
-        end_low a.image.now c.loop-start.image a.p c.loop-start.start c.requires.lies c.loop-start.invariant.keeps whole stranded in
+    let a = c.args in
+    end_low a.image.now c.loop-start.image a.p c.loop-start.start c.requires.lies c.loop-start.invariant.keeps whole stranded in
     let goes : c.loop-start.start < c.next_strand-k.result.end =
-        let a = c.args in
-        gone_on a.image.now c.loop-start.image a.p c.loop-start.start c.requires.lies c.loop-start.invariant.keeps whole stranded c.loop-start-test.true in
+    let a = c.args in
+    gone_on a.image.now c.loop-start.image a.p c.loop-start.start c.requires.lies c.loop-start.invariant.keeps whole stranded c.loop-start-test.true in
     omega (arith, c.loop-start.invariant.few, goes, ends, c.requires.lies.end_low)
 
 pub returns-in_default : goal.returns-in_default
 unfolding part
 returns-in_default c =
     let stranded : let p = c.args.p in Stranded (onward (pair_job c.loop-start.image p) c.loop-start.start) p.reading.slots c.first_place-first.result c.next_strand-k.result =
-        c.next_strand-k.ensures in
+    c.next_strand-k.ensures in
     let whole : let a = c.args in WholeOrder (source_in a.image.now a.p) a.p.reading c.first_place-first.result =
-        let a = c.args in
-        let f = c.first_place-first.ensures in
-        first-whole (source_in a.image.now a.p) a.p.reading c.requires.lies.readable f.0 f.1 f.2 in
+    let a = c.args in
+    let f = c.first_place-first.ensures in
+    first-whole (source_in a.image.now a.p) a.p.reading c.requires.lies.readable f.0 f.1 f.2 in
     let counts : let a = c.args in Strands (pair_job a.image.now a.p) (c.loop-start.strands + 1) c.next_strand-k.result.end =
-        let a = c.args in
-        one_strand a.image.now c.loop-start.image a.p c.loop-start.start c.requires.lies c.loop-start.invariant.keeps whole stranded c.loop-start-test.true c.loop-start.invariant.counted in
-    let fills : let q = pair_job c.loop-start.image (in_part c.args.p c.loop-start.start c.next_strand-k.result.end) in filled_in c.fill_runs-done.new.image c.args.p c.fill_runs-done.result ≡ fill q (filled_in c.loop-start.image c.args.p c.loop-start.done) (windows q) c.args.p.reading.series =
-        rw c.part_of-part.ensures at c.fill_runs-done.ensures.result_after in
+    let a = c.args in
+    one_strand a.image.now c.loop-start.image a.p c.loop-start.start c.requires.lies c.loop-start.invariant.keeps whole stranded c.loop-start-test.true c.loop-start.invariant.counted in
+    let fills : let q = pair_job c.loop-start.image (in_part c.args.p c.loop-start.start c.next_strand-k.result.end) in filled_in c.fill_runs-done.new.image c.args.p c.fill_runs-done.result ≡
+    fill q (filled_in c.loop-start.image c.args.p c.loop-start.done) (windows q) c.args.p.reading.series =
+    rw c.part_of-part.ensures at c.fill_runs-done.ensures.result_after in
     let kept : Keeps c.args.image.now c.fill_runs-done.new.image c.args.p =
-        let i = c.loop-start.invariant.keeps in
-        keeps_then c.args.image.now c.loop-start.image c.fill_runs-done.new.image c.args.p c.requires.lies i (keeps_part i.lies c.loop-start.start c.next_strand-k.result.end (rw c.part_of-part.ensures at c.fill_runs-done.ensures.keeps.0)) in
+    let i = c.loop-start.invariant.keeps in
+    keeps_then c.args.image.now c.loop-start.image c.fill_runs-done.new.image c.args.p c.requires.lies i (keeps_part i.lies c.loop-start.start c.next_strand-k.result.end (rw c.part_of-part.ensures at c.fill_runs-done.ensures.keeps.0)) in
     let total : Filled =
-        let a = c.args in
-        all_filled a.image.now a.p a.filling in
+    let a = c.args in
+    all_filled a.image.now a.p a.filling in
     let leaves : let q = onward (pair_job c.args.image.now c.args.p) c.next_strand-k.result.end in fill q (filled_in c.fill_runs-done.new.image c.args.p c.fill_runs-done.result) (windows q) c.args.p.reading.series ≡ total =
-        part_turn c.args.image.now c.loop-start.image c.args.p c.loop-start.start c.requires.lies c.loop-start.invariant.keeps whole stranded c.loop-start.done c.loop-start.invariant.left c.fill_runs-done.new.image c.fill_runs-done.result fills in
+    part_turn c.args.image.now c.loop-start.image c.args.p c.loop-start.start c.requires.lies c.loop-start.invariant.keeps whole stranded c.loop-start.done c.loop-start.invariant.left c.fill_runs-done.new.image c.fill_runs-done.result fills in
     let a = c.args in
     let q = onward (pair_job a.image.now a.p) c.next_strand-k.result.end in
     let last = part-last a.image.now c.loop-start.image a.p c.loop-start.start c.requires.lies c.loop-start.invariant.keeps whole stranded
@@ -132,52 +133,53 @@ pub loop-start-smaller : goal.loop-start-smaller
 unfolding part
 loop-start-smaller c =
     let whole : let a = c.args in WholeOrder (source_in a.image.now a.p) a.p.reading c.first_place-first.result =
-        let a = c.args in
-        let f = c.first_place-first.ensures in
-        first-whole (source_in a.image.now a.p) a.p.reading c.requires.lies.readable f.0 f.1 f.2 in
+    let a = c.args in
+    let f = c.first_place-first.ensures in
+    first-whole (source_in a.image.now a.p) a.p.reading c.requires.lies.readable f.0 f.1 f.2 in
     let stranded : let p = c.args.p in Stranded (onward (pair_job c.loop-start.image p) c.loop-start.start) p.reading.slots c.first_place-first.result c.next_strand-k.result =
-        c.next_strand-k.ensures in
+    c.next_strand-k.ensures in
     let ends : c.next_strand-k.result.end ≤ c.args.p.reading.end =
-        let a = c.args in
-        end_low a.image.now c.loop-start.image a.p c.loop-start.start c.requires.lies c.loop-start.invariant.keeps whole stranded in
+    let a = c.args in
+    end_low a.image.now c.loop-start.image a.p c.loop-start.start c.requires.lies c.loop-start.invariant.keeps whole stranded in
     let goes : c.loop-start.start < c.next_strand-k.result.end =
-        let a = c.args in
-        gone_on a.image.now c.loop-start.image a.p c.loop-start.start c.requires.lies c.loop-start.invariant.keeps whole stranded c.loop-start-test.true in
+    let a = c.args in
+    gone_on a.image.now c.loop-start.image a.p c.loop-start.start c.requires.lies c.loop-start.invariant.keeps whole stranded c.loop-start-test.true in
     omega (arith, goes, ends)
 
 pub loop-start-preserved : goal.loop-start-preserved
 unfolding part
 loop-start-preserved c =
     let kept : Keeps c.args.image.now c.fill_runs-done.new.image c.args.p =
-        let i = c.loop-start.invariant.keeps in
-        keeps_then c.args.image.now c.loop-start.image c.fill_runs-done.new.image c.args.p c.requires.lies i (keeps_part i.lies c.loop-start.start c.next_strand-k.result.end (rw c.part_of-part.ensures at c.fill_runs-done.ensures.keeps.0)) in
+    let i = c.loop-start.invariant.keeps in
+    keeps_then c.args.image.now c.loop-start.image c.fill_runs-done.new.image c.args.p c.requires.lies i (keeps_part i.lies c.loop-start.start c.next_strand-k.result.end (rw c.part_of-part.ensures at c.fill_runs-done.ensures.keeps.0)) in
     let total : Filled =
-        let a = c.args in
-        all_filled a.image.now a.p a.filling in
+    let a = c.args in
+    all_filled a.image.now a.p a.filling in
     let whole : let a = c.args in WholeOrder (source_in a.image.now a.p) a.p.reading c.first_place-first.result =
-        let a = c.args in
-        let f = c.first_place-first.ensures in
-        first-whole (source_in a.image.now a.p) a.p.reading c.requires.lies.readable f.0 f.1 f.2 in
+    let a = c.args in
+    let f = c.first_place-first.ensures in
+    first-whole (source_in a.image.now a.p) a.p.reading c.requires.lies.readable f.0 f.1 f.2 in
     let stranded : let p = c.args.p in Stranded (onward (pair_job c.loop-start.image p) c.loop-start.start) p.reading.slots c.first_place-first.result c.next_strand-k.result =
-        c.next_strand-k.ensures in
-    let fills : let q = pair_job c.loop-start.image (in_part c.args.p c.loop-start.start c.next_strand-k.result.end) in filled_in c.fill_runs-done.new.image c.args.p c.fill_runs-done.result ≡ fill q (filled_in c.loop-start.image c.args.p c.loop-start.done) (windows q) c.args.p.reading.series =
-        rw c.part_of-part.ensures at c.fill_runs-done.ensures.result_after in
+    c.next_strand-k.ensures in
+    let fills : let q = pair_job c.loop-start.image (in_part c.args.p c.loop-start.start c.next_strand-k.result.end) in filled_in c.fill_runs-done.new.image c.args.p c.fill_runs-done.result ≡
+    fill q (filled_in c.loop-start.image c.args.p c.loop-start.done) (windows q) c.args.p.reading.series =
+    rw c.part_of-part.ensures at c.fill_runs-done.ensures.result_after in
     let leaves : let q = onward (pair_job c.args.image.now c.args.p) c.next_strand-k.result.end in fill q (filled_in c.fill_runs-done.new.image c.args.p c.fill_runs-done.result) (windows q) c.args.p.reading.series ≡ total =
-        part_turn c.args.image.now c.loop-start.image c.args.p c.loop-start.start c.requires.lies c.loop-start.invariant.keeps whole stranded c.loop-start.done c.loop-start.invariant.left c.fill_runs-done.new.image c.fill_runs-done.result fills in
+    part_turn c.args.image.now c.loop-start.image c.args.p c.loop-start.start c.requires.lies c.loop-start.invariant.keeps whole stranded c.loop-start.done c.loop-start.invariant.left c.fill_runs-done.new.image c.fill_runs-done.result fills in
     let goes : c.loop-start.start < c.next_strand-k.result.end =
-        let a = c.args in
-        gone_on a.image.now c.loop-start.image a.p c.loop-start.start c.requires.lies c.loop-start.invariant.keeps whole stranded c.loop-start-test.true in
+    let a = c.args in
+    gone_on a.image.now c.loop-start.image a.p c.loop-start.start c.requires.lies c.loop-start.invariant.keeps whole stranded c.loop-start-test.true in
     let counts : let a = c.args in Strands (pair_job a.image.now a.p) (c.loop-start.strands + 1) c.next_strand-k.result.end =
-        let a = c.args in
-        one_strand a.image.now c.loop-start.image a.p c.loop-start.start c.requires.lies c.loop-start.invariant.keeps whole stranded c.loop-start-test.true c.loop-start.invariant.counted in
+    let a = c.args in
+    one_strand a.image.now c.loop-start.image a.p c.loop-start.start c.requires.lies c.loop-start.invariant.keeps whole stranded c.loop-start-test.true c.loop-start.invariant.counted in
     record { keeps = kept; fine = c.in-Accepted.is; left = leaves; counted = counts; few = omega (arith, c.loop-start.invariant.few, goes) }
 
 pub returns : goal.returns
 returns c =
     let few_writes : let a = c.args in c.loop-start.done.writes ≤ a.filling.writes + a.p.reading.series * a.p.reading.slots =
-        let a = c.args in
-        let q = onward (pair_job a.image.now a.p) c.loop-start.start in
-        writes_few a.image.now a.p c.requires.lies q (windows q) a.p.reading.series (filled_in c.loop-start.image a.p c.loop-start.done) (filled_in a.image.now a.p a.filling) c.loop-start.invariant.left in
+    let a = c.args in
+    let q = onward (pair_job a.image.now a.p) c.loop-start.start in
+    writes_few a.image.now a.p c.requires.lies q (windows q) a.p.reading.series (filled_in c.loop-start.image a.p c.loop-start.done) (filled_in a.image.now a.p a.filling) c.loop-start.invariant.left in
     let a = c.args in
     let i = c.loop-start.invariant in
     let q = onward (pair_job a.image.now a.p) c.loop-start.start in

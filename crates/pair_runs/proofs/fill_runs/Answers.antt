@@ -53,30 +53,35 @@ unfolding part
 fill_window-done-requires c =
     let some_left : 0 < c.loop-left.left = c.loop-left-test.true in
     let source : List ℕ =
-        let a = c.args in
-        source_in a.image.now a.p in
+    let a = c.args in
+    source_in a.image.now a.p in
     let ran : let q = c.args.p.reading in Ran (job_in source q) q.slots (record { slot = c.loop-left.slot; left = c.loop-left.left }) c.next_run-r.result =
-        let q = c.args.p.reading in
-        subst (λ (s : List ℕ). Ran (job_in s q) q.slots (record { slot = c.loop-left.slot; left = c.loop-left.left }) c.next_run-r.result) c.loop-left.invariant.keeps.source_is c.next_run-r.ensures in
+    let q = c.args.p.reading in
+    subst (λ (s : List ℕ). Ran (job_in s q) q.slots (record { slot = c.loop-left.slot; left = c.loop-left.left }) c.next_run-r.result) c.loop-left.invariant.keeps.source_is c.next_run-r.ensures in
     let a = c.args in
     let i = c.loop-left.invariant in
-    let covers = run-covers source a.p.reading c.requires.lies.0.readable some_left i.rest ran i.few_left in record { lies = (i.keeps.lies, covers_kept a.image.now c.loop-left.image a.p i.keeps covers); outcome_value = (i.fine, omega (arith, i.few, c.requires.outcome_value.1, fewer_left a.p.reading.series 0 c.loop-left.left some_left)) }
+    let covers = run-covers source a.p.reading c.requires.lies.0.readable some_left i.rest ran i.few_left in record {
+      lies = (i.keeps.lies, covers_kept a.image.now c.loop-left.image a.p i.keeps covers);
+      outcome_value =
+          (i.fine, omega (arith, i.few, c.requires.outcome_value.1, fewer_left a.p.reading.series 0 c.loop-left.left some_left));
+    }
 
 pub returns-in_default : goal.returns-in_default
 unfolding part
 returns-in_default c =
-    let fills : filled_in c.fill_window-done.new.image c.args.p c.fill_window-done.result ≡ fill_window (pair_job c.args.image.now c.args.p) (filled_in c.loop-left.image c.args.p c.loop-left.done) c.next_run-r.result.window 0 c.args.p.reading.series =
-        let f = filled_in c.loop-left.image c.args.p c.loop-left.done in
-        c.fill_window-done.ensures.result_after ∙ ap (λ (q : Job). fill_window q f c.next_run-r.result.window 0 c.args.p.reading.series) (job-kept c.args.image.now c.loop-left.image c.args.p c.loop-left.invariant.keeps) in
+    let fills : filled_in c.fill_window-done.new.image c.args.p c.fill_window-done.result ≡ fill_window (pair_job c.args.image.now c.args.p)
+    (filled_in c.loop-left.image c.args.p c.loop-left.done) c.next_run-r.result.window 0 c.args.p.reading.series =
+    let f = filled_in c.loop-left.image c.args.p c.loop-left.done in
+    c.fill_window-done.ensures.result_after ∙ ap (λ (q : Job). fill_window q f c.next_run-r.result.window 0 c.args.p.reading.series) (job-kept c.args.image.now c.loop-left.image c.args.p c.loop-left.invariant.keeps) in
     let kept : Keeps c.args.image.now c.fill_window-done.new.image c.args.p =
-        keeps_then c.args.image.now c.loop-left.image c.fill_window-done.new.image c.args.p c.requires.lies.0 c.loop-left.invariant.keeps c.fill_window-done.ensures.keeps.0 in
+    keeps_then c.args.image.now c.loop-left.image c.fill_window-done.new.image c.args.p c.requires.lies.0 c.loop-left.invariant.keeps c.fill_window-done.ensures.keeps.0 in
     let some_left : 0 < c.loop-left.left = c.loop-left-test.true in
     let source : List ℕ =
-        let a = c.args in
-        source_in a.image.now a.p in
+    let a = c.args in
+    source_in a.image.now a.p in
     let ran : let q = c.args.p.reading in Ran (job_in source q) q.slots (record { slot = c.loop-left.slot; left = c.loop-left.left }) c.next_run-r.result =
-        let q = c.args.p.reading in
-        subst (λ (s : List ℕ). Ran (job_in s q) q.slots (record { slot = c.loop-left.slot; left = c.loop-left.left }) c.next_run-r.result) c.loop-left.invariant.keeps.source_is c.next_run-r.ensures in
+    let q = c.args.p.reading in
+    subst (λ (s : List ℕ). Ran (job_in s q) q.slots (record { slot = c.loop-left.slot; left = c.loop-left.left }) c.next_run-r.result) c.loop-left.invariant.keeps.source_is c.next_run-r.ensures in
     let a = c.args in
     let i = c.loop-left.invariant in
     let last = run-last source a.p.reading c.requires.lies.0.readable some_left i.rest ran fills
@@ -87,28 +92,29 @@ pub loop-left-smaller : goal.loop-left-smaller
 unfolding part
 loop-left-smaller c =
     let source : List ℕ =
-        let a = c.args in
-        source_in a.image.now a.p in
+    let a = c.args in
+    source_in a.image.now a.p in
     let ran : let q = c.args.p.reading in Ran (job_in source q) q.slots (record { slot = c.loop-left.slot; left = c.loop-left.left }) c.next_run-r.result =
-        let q = c.args.p.reading in
-        subst (λ (s : List ℕ). Ran (job_in s q) q.slots (record { slot = c.loop-left.slot; left = c.loop-left.left }) c.next_run-r.result) c.loop-left.invariant.keeps.source_is c.next_run-r.ensures in
+    let q = c.args.p.reading in
+    subst (λ (s : List ℕ). Ran (job_in s q) q.slots (record { slot = c.loop-left.slot; left = c.loop-left.left }) c.next_run-r.result) c.loop-left.invariant.keeps.source_is c.next_run-r.ensures in
     ran.fewer
 
 pub loop-left-preserved : goal.loop-left-preserved
 unfolding part
 loop-left-preserved c =
-    let fills : filled_in c.fill_window-done.new.image c.args.p c.fill_window-done.result ≡ fill_window (pair_job c.args.image.now c.args.p) (filled_in c.loop-left.image c.args.p c.loop-left.done) c.next_run-r.result.window 0 c.args.p.reading.series =
-        let f = filled_in c.loop-left.image c.args.p c.loop-left.done in
-        c.fill_window-done.ensures.result_after ∙ ap (λ (q : Job). fill_window q f c.next_run-r.result.window 0 c.args.p.reading.series) (job-kept c.args.image.now c.loop-left.image c.args.p c.loop-left.invariant.keeps) in
+    let fills : filled_in c.fill_window-done.new.image c.args.p c.fill_window-done.result ≡ fill_window (pair_job c.args.image.now c.args.p)
+    (filled_in c.loop-left.image c.args.p c.loop-left.done) c.next_run-r.result.window 0 c.args.p.reading.series =
+    let f = filled_in c.loop-left.image c.args.p c.loop-left.done in
+    c.fill_window-done.ensures.result_after ∙ ap (λ (q : Job). fill_window q f c.next_run-r.result.window 0 c.args.p.reading.series) (job-kept c.args.image.now c.loop-left.image c.args.p c.loop-left.invariant.keeps) in
     let kept : Keeps c.args.image.now c.fill_window-done.new.image c.args.p =
-        keeps_then c.args.image.now c.loop-left.image c.fill_window-done.new.image c.args.p c.requires.lies.0 c.loop-left.invariant.keeps c.fill_window-done.ensures.keeps.0 in
+    keeps_then c.args.image.now c.loop-left.image c.fill_window-done.new.image c.args.p c.requires.lies.0 c.loop-left.invariant.keeps c.fill_window-done.ensures.keeps.0 in
     let some_left : 0 < c.loop-left.left = c.loop-left-test.true in
     let source : List ℕ =
-        let a = c.args in
-        source_in a.image.now a.p in
+    let a = c.args in
+    source_in a.image.now a.p in
     let ran : let q = c.args.p.reading in Ran (job_in source q) q.slots (record { slot = c.loop-left.slot; left = c.loop-left.left }) c.next_run-r.result =
-        let q = c.args.p.reading in
-        subst (λ (s : List ℕ). Ran (job_in s q) q.slots (record { slot = c.loop-left.slot; left = c.loop-left.left }) c.next_run-r.result) c.loop-left.invariant.keeps.source_is c.next_run-r.ensures in
+    let q = c.args.p.reading in
+    subst (λ (s : List ℕ). Ran (job_in s q) q.slots (record { slot = c.loop-left.slot; left = c.loop-left.left }) c.next_run-r.result) c.loop-left.invariant.keeps.source_is c.next_run-r.ensures in
     let a = c.args in
     let i = c.loop-left.invariant in
     let k = ran in
@@ -124,6 +130,6 @@ loop-left-preserved c =
 pub returns : goal.returns
 returns c =
     let source : List ℕ =
-        let a = c.args in
-        source_in a.image.now a.p in
+    let a = c.args in
+    source_in a.image.now a.p in
     let i = c.loop-left.invariant in record { result_after = runs_done source c.args.p.reading c.requires.lies.0.readable c.loop-left.slot c.loop-left.left (omega arith) i.rest; keeps = (i.keeps, omega (arith, i.few)) }

@@ -20,19 +20,44 @@ unfolding stamps_at stamps_behind directory
 stamps_at-stamps-requires c = omega (arith, c.get_u32-m.ensures.1)
 
 pub returns-then-slab-stamps : goal.returns-then-slab-stamps
-returns-then-slab-stamps c = no_directory c.args.slab.now c.args.column c.args.place c.get_u32-n.ensures.0 c.get_u32-m.ensures.0 c.stamps_at-stamps.ensures c.if-slab-lt-SLAB_HEADER.false c.if-slab-stamps.true
+returns-then-slab-stamps c =
+    let stamps_are : c.stamps_at-stamps.result ≡ stamps_at c.get_u32-m.result = c.stamps_at-stamps.ensures in
+    let slots_are : c.get_u32-n.result ≡ get 4 c.args.slab.now 16 = c.get_u32-n.ensures.0 in
+    let series_are : c.get_u32-m.result ≡ get 4 c.args.slab.now 20 = c.get_u32-m.ensures.0 in
+    let header : 64 ≤ length c.args.slab.now = c.if-slab-lt-SLAB_HEADER.false in
+    no_directory c.args.slab.now c.args.column c.args.place slots_are series_are stamps_are header c.if-slab-stamps.true
 
 pub overflow_mul-n : goal.overflow_mul-n
 overflow_mul-n c = omega (arith, cells_fit c.get_u32-n.result c.get_u32-m.result c.get_u32-n.ensures.1 c.get_u32-m.ensures.1)
 
 pub returns-then-slab-stamps-2 : goal.returns-then-slab-stamps-2
-returns-then-slab-stamps-2 c = no_room c.args.slab.now c.args.column c.args.place c.get_u32-n.ensures.0 c.get_u32-m.ensures.0 c.stamps_at-stamps.ensures c.if-slab-lt-SLAB_HEADER.false c.if-slab-stamps-2.true
+returns-then-slab-stamps-2 c =
+    let stamps_are : c.stamps_at-stamps.result ≡ stamps_at c.get_u32-m.result = c.stamps_at-stamps.ensures in
+    let slots_are : c.get_u32-n.result ≡ get 4 c.args.slab.now 16 = c.get_u32-n.ensures.0 in
+    let series_are : c.get_u32-m.result ≡ get 4 c.args.slab.now 20 = c.get_u32-m.ensures.0 in
+    let header : 64 ≤ length c.args.slab.now = c.if-slab-lt-SLAB_HEADER.false in
+    no_room c.args.slab.now c.args.column c.args.place slots_are series_are stamps_are header c.if-slab-stamps-2.true
 
 pub returns-then-column-m : goal.returns-then-column-m
-returns-then-column-m c = no_column c.args.slab.now c.args.column c.args.place c.get_u32-n.ensures.0 c.get_u32-m.ensures.0 c.stamps_at-stamps.ensures c.if-slab-lt-SLAB_HEADER.false c.if-slab-stamps.false c.if-slab-stamps-2.false c.if-column-m.true
+returns-then-column-m c =
+    let stamps_are : c.stamps_at-stamps.result ≡ stamps_at c.get_u32-m.result = c.stamps_at-stamps.ensures in
+    let slots_are : c.get_u32-n.result ≡ get 4 c.args.slab.now 16 = c.get_u32-n.ensures.0 in
+    let series_are : c.get_u32-m.result ≡ get 4 c.args.slab.now 20 = c.get_u32-m.ensures.0 in
+    let header : 64 ≤ length c.args.slab.now = c.if-slab-lt-SLAB_HEADER.false in
+    no_column c.args.slab.now c.args.column c.args.place slots_are series_are stamps_are header c.if-slab-stamps.false c.if-slab-stamps-2.false c.if-column-m.true
 
 pub returns-then-place-n : goal.returns-then-place-n
-returns-then-place-n c = no_slot c.args.slab.now c.args.column c.args.place c.get_u32-n.ensures.0 c.get_u32-m.ensures.0 c.stamps_at-stamps.ensures c.if-slab-lt-SLAB_HEADER.false c.if-slab-stamps.false c.if-slab-stamps-2.false c.if-column-m.false c.if-place-n.true
+returns-then-place-n c =
+    let stamps_are : c.stamps_at-stamps.result ≡ stamps_at c.get_u32-m.result = c.stamps_at-stamps.ensures in
+    let slots_are : c.get_u32-n.result ≡ get 4 c.args.slab.now 16 = c.get_u32-n.ensures.0 in
+    let series_are : c.get_u32-m.result ≡ get 4 c.args.slab.now 20 = c.get_u32-m.ensures.0 in
+    let header : 64 ≤ length c.args.slab.now = c.if-slab-lt-SLAB_HEADER.false in
+    no_slot c.args.slab.now c.args.column c.args.place slots_are series_are stamps_are header c.if-slab-stamps.false c.if-slab-stamps-2.false c.if-column-m.false c.if-place-n.true
 
 pub returns : goal.returns
-returns c = left_decides c.args.slab.now c.args.column c.args.place c.get_u32-n.ensures.0 c.get_u32-m.ensures.0 c.stamps_at-stamps.ensures c.if-slab-lt-SLAB_HEADER.false c.if-slab-stamps.false c.if-slab-stamps-2.false c.if-column-m.false c.if-place-n.false
+returns c =
+    let stamps_are : c.stamps_at-stamps.result ≡ stamps_at c.get_u32-m.result = c.stamps_at-stamps.ensures in
+    let slots_are : c.get_u32-n.result ≡ get 4 c.args.slab.now 16 = c.get_u32-n.ensures.0 in
+    let series_are : c.get_u32-m.result ≡ get 4 c.args.slab.now 20 = c.get_u32-m.ensures.0 in
+    let header : 64 ≤ length c.args.slab.now = c.if-slab-lt-SLAB_HEADER.false in
+    left_decides c.args.slab.now c.args.column c.args.place slots_are series_are stamps_are header c.if-slab-stamps.false c.if-slab-stamps-2.false c.if-column-m.false c.if-place-n.false

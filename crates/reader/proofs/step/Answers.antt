@@ -6,7 +6,6 @@ use mathlib.Core.Bool.{true}
 use lib.ListN.{length}
 use Rattle.model.specs.Read.{step, stepped, readable}
 use Rattle.reader.proofs.Laws.{header_there, held}
-use borrow.Author.Rules.{rules}
 use Rattle.reader.proofs.step.Goals as goal
 
 reads : (c : goal.Then-reads) → readable c.args.slab.now c.args.column c.args.place ≡ true

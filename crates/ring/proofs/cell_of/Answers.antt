@@ -1,6 +1,5 @@
 -- `ring::cell_of` meets its contract: the u64 at the cell's place. Assumes nothing.
 use Rattle.laws.specs.Slab.{cell-is}
-use borrow.Author.Rules.{rules}
 use Rattle.ring.proofs.cell_of.Goals as goal
 
 pub returns : goal.returns

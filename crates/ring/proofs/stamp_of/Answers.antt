@@ -1,6 +1,5 @@
 -- `ring::stamp_of` meets its contract: the u64 at the stamp's place. Assumes nothing.
 use Rattle.laws.specs.Slab.{stamp-is}
-use borrow.Author.Rules.{rules}
 use Rattle.ring.proofs.stamp_of.Goals as goal
 
 pub returns : goal.returns

@@ -1,6 +1,5 @@
 -- `ring_joined::eight` meets its contract: four slots, and four. Assumes nothing.
 use Rattle.ring_joined.specs.Slots.{eight_slots}
-use borrow.Author.Rules.{rules}
 use Rattle.ring_joined.proofs.eight.Goals as goal
 
 pub returns : goal.returns

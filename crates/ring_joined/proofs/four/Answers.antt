@@ -1,5 +1,4 @@
 -- `ring_joined::four` meets its contract: four slots read, in order. Assumes nothing.
-use borrow.Author.Rules.{rules}
 use Rattle.ring_joined.specs.Slots.{four-slots}
 use Rattle.ring_joined.proofs.four.Goals as goal
 

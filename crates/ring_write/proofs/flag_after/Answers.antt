@@ -1,5 +1,4 @@
 -- `ring_write::flag_after` meets its contract, one case a return. Assumes nothing.
-use borrow.Author.Rules.{rules}
 use Rattle.ring_write.proofs.flag_after.Goals as goal
 
 pub returns : goal.returns

@@ -3,7 +3,6 @@ use native.Mathlib.Omega.{arith}
 use Rattle.ring_theory.specs.Sound.{header_in}
 use Rattle.ring.specs.Parts.{sized}
 use Rattle.ring_write.proofs.Laws.{written}
-use borrow.Author.Rules.{rules}
 use Rattle.ring_write.proofs.write_batch.Goals as goal
 
 pub write_cells-requires : goal.write_cells-requires

@@ -4,7 +4,6 @@ use Rattle.model.specs.Bytes.{put}
 use Rattle.model.specs.Ring.{cell_at, put_cells}
 use Rattle.laws.specs.Slab.{cell_place, cell_at_high}
 use Rattle.ring_write.proofs.Laws.{sound-put}
-use borrow.Author.Rules.{rules}
 use Rattle.ring_write.proofs.write_cell.Goals as goal
 
 pub returns : goal.returns

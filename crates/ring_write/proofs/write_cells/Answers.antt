@@ -1,21 +1,19 @@
 -- `ring_write::write_cells` meets its contract. The loop's invariant: the values from entry i on, stored in the slab as it is now, make what all values make of
-use Prim.Native.Nat.{ℕ, ◌+◌, ◌-◌, ◌*◌, ◌/◌, ◌≤◌}
+use Prim.Native.Nat.{◌+◌, ◌*◌, ◌/◌}
 use native.Mathlib.Omega.{arith}
 use native.Mathlib.Nat.{sub-zero}
 use mathlib.Core.Path.{◌≡◌, refl, sym, ◌∙◌, subst}
-use mathlib.Core.List.{List, ◌∷◌}
 use lib.ListN.{length}
 use borrow.Author.Tests.{eq-eqb, ne_eqb}
 use Rattle.model.specs.Bytes.{get}
-use Rattle.model.specs.Ring.{ColumnValue, put_cells, interval}
-use Rattle.model.specs.Record.{entries, entries_from, entries_of}
+use Rattle.model.specs.Ring.{put_cells}
+use Rattle.model.specs.Record.{entries}
 use Rattle.ring_theory.specs.Sound.{Sound}
 use Rattle.ring.specs.Parts.{sized, one}
-use Rattle.ring_write.specs.Stored.{Columns}
 use Rattle.ring_write.specs.Entries.{skip_entry, keep-entry, no_entry}
 use Rattle.ring_write.proofs.Laws.{cell_turn}
 use borrow.Author.Rules.{rules}
-use Rattle.ring_write.proofs.write_cells.Invariants.{Inv, rest}
+use Rattle.ring_write.proofs.write_cells.Invariants.{rest}
 use Rattle.ring_write.proofs.write_cells.Goals as goal
 
 skipped : (c : goal.Then-s-schema) → (rest c.args.batch.now c.args.schema (length c.args.batch.now / 16) c.loop-i.i) ≡ (rest c.args.batch.now c.args.schema (length c.args.batch.now / 16) (c.loop-i.i + 1))
@@ -48,7 +46,8 @@ loop-i-preserved c =
       long = search rules;
       sound = subst (Sound cell.new.slab _ _) l.invariant.sound.interval-is cell.ensures.1;
       columns = (rw ((keep-entry _ _ _ _ c.loop-i-test.true (eq-eqb _ _ (sym c.get_u32-s.ensures.0 ∙ c.if-s-schema.false)))) at l.invariant.columns).1;
-      leads = cell_turn l.slab slot _ _ (rest c.args.batch.now c.args.schema (length c.args.batch.now / 16) (l.i + 1)) p (rw ((keep-entry _ _ _ _ c.loop-i-test.true (eq-eqb _ _ (sym c.get_u32-s.ensures.0 ∙ c.if-s-schema.false)))) at l.invariant.leads);
+      leads = cell_turn l.slab slot _ _ (rest c.args.batch.now c.args.schema (length c.args.batch.now / 16) (l.i + 1)) p
+          (rw ((keep-entry _ _ _ _ c.loop-i-test.true (eq-eqb _ _ (sym c.get_u32-s.ensures.0 ∙ c.if-s-schema.false)))) at l.invariant.leads);
     }
 
 pub returns : goal.returns

@@ -1,19 +1,11 @@
-use Prim.Native.Nat.{ℕ, ◌+◌, ◌-◌, ◌*◌, ◌/◌, ◌≤◌}
-use native.Mathlib.Omega.{arith}
-use native.Mathlib.Nat.{sub-zero}
-use mathlib.Core.Path.{◌≡◌, refl, sym, ◌∙◌, subst}
-use mathlib.Core.List.{List, ◌∷◌}
+use Prim.Native.Nat.{ℕ, ◌-◌, ◌≤◌}
+use mathlib.Core.Path.{◌≡◌}
+use mathlib.Core.List.{List}
 use lib.ListN.{length}
-use borrow.Author.Tests.{eq-eqb, ne_eqb}
-use Rattle.model.specs.Bytes.{get}
 use Rattle.model.specs.Ring.{ColumnValue, put_cells, interval}
 use Rattle.model.specs.Record.{entries, entries_from, entries_of}
 use Rattle.ring_theory.specs.Sound.{Sound}
-use Rattle.ring.specs.Parts.{sized, one}
 use Rattle.ring_write.specs.Stored.{Columns}
-use Rattle.ring_write.specs.Entries.{skip_entry, keep-entry, no_entry}
-use Rattle.ring_write.proofs.Laws.{cell_turn}
-use borrow.Author.Rules.{rules}
 use Rattle.ring_write.proofs.write_cells.Given as goal
 
 -- the values from entry i of count on

@@ -1,5 +1,4 @@
 -- `ring_write::write_cursor` meets its contract: the u32 at 32. Assumes nothing.
-use borrow.Author.Rules.{rules}
 use Rattle.ring_write.proofs.write_cursor.Goals as goal
 
 pub returns : goal.returns

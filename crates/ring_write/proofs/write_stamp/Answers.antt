@@ -6,7 +6,6 @@ use Rattle.laws.specs.Slab.{stamp_place, stamp_at_high}
 use Rattle.ring_theory.specs.Sound.{some_slots}
 use Rattle.ring.specs.Parts.{sized}
 use Rattle.ring_write.proofs.Laws.{sound-put}
-use borrow.Author.Rules.{rules}
 use Rattle.ring_write.proofs.write_stamp.Goals as goal
 
 pub slot_of-slot-requires : goal.slot_of-slot-requires

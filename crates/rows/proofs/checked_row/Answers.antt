@@ -1,6 +1,6 @@
 -- `rows::checked_row` meets its contract: the row is handed on, or refused by 1, as the one test says. Assumes nothing.
-use mathlib.Core.Path.{◌≡◌, sym, ap, ◌∙◌}
-use Rattle.model.specs.Image.{row_shape, row_at}
+use mathlib.Core.Path.{sym, ap, ◌∙◌}
+use Rattle.model.specs.Image.{row_shape}
 use Rattle.rows.specs.First.{unless-on, unless_stop}
 use borrow.Author.Rules.{rules}
 use Rattle.rows.proofs.checked_row.Goals as goal

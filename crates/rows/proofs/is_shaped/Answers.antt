@@ -1,12 +1,8 @@
 -- `rows::is_shaped` meets its contract: a short slice, a bad header, then the rows. Assumes nothing.
 use mathlib.Core.Path.{◌≡◌, sym, ◌∙◌}
 use mathlib.Core.Bool.{true}
-use mathlib.Core.List.{List}
-use Prim.Native.Nat.{ℕ}
 use native.Mathlib.Omega.{arith}
-use borrow.Author.Tests.{not-true, not-false}
 use Rattle.rows.proofs.Laws as laws
-use borrow.Author.Rules.{rules}
 use Rattle.rows.proofs.is_shaped.Goals as goal
 
 head-good : (c : goal.Else-not-head) → laws.header_of c.args.s.now ≡ true

@@ -1,7 +1,6 @@
 -- `rows::row_follows` meets its contract: the tests joined by `&` and `|` are the definition, a tier and one more is its successor. Assumes nothing.
 use native.Mathlib.Numerals.{add-one}
 use Rattle.model.specs.Image.{follows}
-use borrow.Author.Rules.{rules}
 use Rattle.rows.proofs.row_follows.Goals as goal
 
 pub returns : goal.returns

@@ -1,14 +1,8 @@
 -- `rows::rows_blank` meets its contract: the test so far and the rows left are blank exactly when all are. Assumes nothing.
-use borrow.Author.Rules.{rules}
-use Prim.Native.Nat.{ℕ, ◌-◌, ◌≤◌}
-use mathlib.Core.Path.{◌≡◌, refl, sym, ap, ◌∙◌}
-use mathlib.Core.Bool.{Bool, ◌&&◌}
-use mathlib.Core.List.{List}
+use mathlib.Core.Path.{refl, sym, ap, ◌∙◌}
 use native.Mathlib.Omega.{arith}
-use Rattle.model.specs.Image.{every, blank_row}
-use Rattle.rows.specs.Rows.{rows_to}
+use Rattle.model.specs.Image.{blank_row}
 use Rattle.rows.proofs.Laws.{every_more, every_end}
-use Rattle.rows.proofs.rows_blank.Invariants.{Tested}
 use Rattle.rows.proofs.rows_blank.Goals as goal
 
 pub loop-i-init : goal.loop-i-init

@@ -1,12 +1,9 @@
-use borrow.Author.Rules.{rules}
 use Prim.Native.Nat.{ℕ, ◌-◌, ◌≤◌}
-use mathlib.Core.Path.{◌≡◌, refl, sym, ap, ◌∙◌}
+use mathlib.Core.Path.{◌≡◌}
 use mathlib.Core.Bool.{Bool, ◌&&◌}
 use mathlib.Core.List.{List}
-use native.Mathlib.Omega.{arith}
 use Rattle.model.specs.Image.{every, blank_row}
 use Rattle.rows.specs.Rows.{rows_to}
-use Rattle.rows.proofs.Laws.{every_more, every_end}
 use Rattle.rows.proofs.rows_blank.Given as goal
 
 -- the rows before row i and the rows left

@@ -1,14 +1,8 @@
-use borrow.Author.Rules.{rules}
 use Prim.Native.Nat.{ℕ, ◌-◌, ◌≤◌}
-use mathlib.Core.Path.{◌≡◌, sym, ◌∙◌}
-use mathlib.Core.Bool.{true}
+use mathlib.Core.Path.{◌≡◌}
 use mathlib.Core.List.{List}
-use native.Mathlib.Omega.{arith}
-use borrow.Author.Tests.{not-true, not-false}
 use Rattle.model.specs.declared.Row.{Row}
-use Rattle.model.specs.Image.{row_at, row_shape}
 use Rattle.rows.specs.Rows.{rows_to, good_rows}
-use Rattle.rows.specs.Checks.{passes, fails}
 use Rattle.rows.proofs.Laws as laws
 use Rattle.rows.proofs.rows_good.Given as goal
 

@@ -51,5 +51,6 @@ returns-then-kind-eq4 c = is_open (lent_of c.args.image.now c.args.flags) c.args
 pub returns : goal.returns
 returns c =
     is-run (lent_of c.args.image.now c.args.flags) c.args.calls.now c.args.at
-    (not_kind c.get_u32-kind.ensures.0 c.if-kind-eq0.false) (not_kind c.get_u32-kind.ensures.0 c.if-kind-eq1.false) (not_kind c.get_u32-kind.ensures.0 c.if-kind-eq2.false) (not_kind c.get_u32-kind.ensures.0 c.if-kind-eq3.false) (not_kind c.get_u32-kind.ensures.0 c.if-kind-eq4.false)
+    (not_kind c.get_u32-kind.ensures.0 c.if-kind-eq0.false) (not_kind c.get_u32-kind.ensures.0 c.if-kind-eq1.false) (not_kind c.get_u32-kind.ensures.0 c.if-kind-eq2.false)
+    (not_kind c.get_u32-kind.ensures.0 c.if-kind-eq3.false) (not_kind c.get_u32-kind.ensures.0 c.if-kind-eq4.false)
     c.carry_run.ensures

@@ -13,18 +13,6 @@ use Rattle.tiers.proofs.Laws.{tier_there, Choosing, behind-first, chosen_best, c
 use borrow.Author.Rules.{rules}
 use Rattle.tiers.proofs.choose_behind.Goals as goal
 
--- there is a tier, and its row is there
-more : (c : goal.Else-not-more) → let a = c.args in ltb c.loop-kept.tier (length (tiers_of a.schema (rows a.image.now))) ≡ true
-more c = sym c.has_tier-more.ensures ∙ c.if-not-more.false
-
-there : (c : goal.Else-not-more) → c.args.first + c.loop-kept.tier < row_count c.args.image.now
-there c =
-    let a = c.args in
-    tier_there a.image.now c.requires.image_value a.schema c.loop-kept.tier c.requires.not_first.first-is (lt-is _ _ (more c))
-
-low : (c : goal.Else-not-more) → c.args.first + c.loop-kept.tier < 32
-low c = omega (arith, there c, few_rows c.args.image.now c.requires.image_value)
-
 pub loop-kept-init : goal.loop-kept-init
 loop-kept-init c =
     let p = c.requires in
@@ -43,31 +31,50 @@ returns-then-not-more c =
     chosen_best a.image.now a.flags a.schema a.first a.start a.end c.loop-kept.invariant (sym c.has_tier-more.ensures ∙ c.if-not-more.true)
 
 pub overflow_add-first : goal.overflow_add-first
-overflow_add-first c = omega (arith, low c)
+overflow_add-first c =
+    let more : let a = c.args in ltb c.loop-kept.tier (length (tiers_of a.schema (rows a.image.now))) ≡ true = sym c.has_tier-more.ensures ∙ c.if-not-more.false in
+    let there : c.args.first + c.loop-kept.tier < row_count c.args.image.now =
+    let a = c.args in
+    tier_there a.image.now c.requires.image_value a.schema c.loop-kept.tier c.requires.not_first.first-is (lt-is _ _ more) in
+    let low : c.args.first + c.loop-kept.tier < 32 = omega (arith, there, few_rows c.args.image.now c.requires.image_value) in
+    omega (arith, low)
 
 pub flag_at-wrapped-requires : goal.flag_at-wrapped-requires
-flag_at-wrapped-requires c = omega (arith, low c)
+flag_at-wrapped-requires c =
+    let more : let a = c.args in ltb c.loop-kept.tier (length (tiers_of a.schema (rows a.image.now))) ≡ true = sym c.has_tier-more.ensures ∙ c.if-not-more.false in
+    let there : c.args.first + c.loop-kept.tier < row_count c.args.image.now =
+    let a = c.args in
+    tier_there a.image.now c.requires.image_value a.schema c.loop-kept.tier c.requires.not_first.first-is (lt-is _ _ more) in
+    let low : c.args.first + c.loop-kept.tier < 32 = omega (arith, there, few_rows c.args.image.now c.requires.image_value) in
+    omega (arith, low)
 
 pub overflow_add-first-in-loop-kept : goal.overflow_add-first-in-loop-kept
 overflow_add-first-in-loop-kept c =
     let more : let a = c.args in ltb c.loop-kept.tier (length (tiers_of a.schema (rows a.image.now))) ≡ true = sym c.has_tier-more.ensures ∙ c.if-not-more.false in
-    let there : c.args.first + c.loop-kept.tier < row_count c.args.image.now = let a = c.args in tier_there a.image.now c.requires.image_value a.schema c.loop-kept.tier c.requires.not_first.first-is (lt-is _ _ more) in
+    let there : c.args.first + c.loop-kept.tier < row_count c.args.image.now =
+    let a = c.args in
+    tier_there a.image.now c.requires.image_value a.schema c.loop-kept.tier c.requires.not_first.first-is (lt-is _ _ more) in
     let low : c.args.first + c.loop-kept.tier < 32 = omega (arith, there, few_rows c.args.image.now c.requires.image_value) in
     omega (arith, low)
 
 pub ring_at-here-requires : goal.ring_at-here-requires
 ring_at-here-requires c =
     let more : let a = c.args in ltb c.loop-kept.tier (length (tiers_of a.schema (rows a.image.now))) ≡ true = sym c.has_tier-more.ensures ∙ c.if-not-more.false in
-    let there : c.args.first + c.loop-kept.tier < row_count c.args.image.now = let a = c.args in tier_there a.image.now c.requires.image_value a.schema c.loop-kept.tier c.requires.not_first.first-is (lt-is _ _ more) in
+    let there : c.args.first + c.loop-kept.tier < row_count c.args.image.now =
+    let a = c.args in
+    tier_there a.image.now c.requires.image_value a.schema c.loop-kept.tier c.requires.not_first.first-is (lt-is _ _ more) in
     record { image_value = c.requires.image_value; row_bound = there }
 
 pub returns-then-covers : goal.returns-then-covers
 returns-then-covers c =
     let more : let a = c.args in ltb c.loop-kept.tier (length (tiers_of a.schema (rows a.image.now))) ≡ true = sym c.has_tier-more.ensures ∙ c.if-not-more.false in
-    let there : c.args.first + c.loop-kept.tier < row_count c.args.image.now = let a = c.args in tier_there a.image.now c.requires.image_value a.schema c.loop-kept.tier c.requires.not_first.first-is (lt-is _ _ more) in
+    let there : c.args.first + c.loop-kept.tier < row_count c.args.image.now =
+    let a = c.args in
+    tier_there a.image.now c.requires.image_value a.schema c.loop-kept.tier c.requires.not_first.first-is (lt-is _ _ more) in
+    let low : c.args.first + c.loop-kept.tier < 32 = omega (arith, there, few_rows c.args.image.now c.requires.image_value) in
     let a = c.args in
     chosen-here a.image.now a.flags a.schema a.first a.start a.end c.requires.not_first.first-is c.loop-kept.invariant
-    (sym c.has_tier-more.ensures ∙ c.if-not-more.false) (let it : c.args.first + c.loop-kept.tier < 32 = omega (arith, there, few_rows c.args.image.now c.requires.image_value) in it) c.ring_at-here.ensures c.flag_at-wrapped.ensures (sym c.is_full-covers.ensures ∙ c.if-covers.true)
+    more low c.ring_at-here.ensures c.flag_at-wrapped.ensures (sym c.is_full-covers.ensures ∙ c.if-covers.true)
 
 pub overflow_add-tier : goal.overflow_add-tier
 overflow_add-tier c = omega (arith, c.loop-kept.invariant.tier-low)
@@ -78,10 +85,13 @@ loop-kept-smaller-then-both c = omega (arith, c.loop-kept.invariant.tier-low)
 pub loop-kept-preserved-then-both : goal.loop-kept-preserved-then-both
 loop-kept-preserved-then-both c =
     let more : let a = c.args in ltb c.loop-kept.tier (length (tiers_of a.schema (rows a.image.now))) ≡ true = sym c.has_tier-more.ensures ∙ c.if-not-more.false in
-    let there : c.args.first + c.loop-kept.tier < row_count c.args.image.now = let a = c.args in tier_there a.image.now c.requires.image_value a.schema c.loop-kept.tier c.requires.not_first.first-is (lt-is _ _ more) in
+    let there : c.args.first + c.loop-kept.tier < row_count c.args.image.now =
+    let a = c.args in
+    tier_there a.image.now c.requires.image_value a.schema c.loop-kept.tier c.requires.not_first.first-is (lt-is _ _ more) in
+    let low : c.args.first + c.loop-kept.tier < 32 = omega (arith, there, few_rows c.args.image.now c.requires.image_value) in
     let a = c.args in
     best_here a.image.now a.flags a.schema a.first a.start a.end c.requires.not_first.first-is c.loop-kept.invariant
-    (sym c.has_tier-more.ensures ∙ c.if-not-more.false) (let it : c.args.first + c.loop-kept.tier < 32 = omega (arith, there, few_rows c.args.image.now c.requires.image_value) in it) c.ring_at-here.ensures c.flag_at-wrapped.ensures (sym c.is_full-covers.ensures ∙ c.if-covers.false) (sym c.has_both-both.ensures ∙ c.if-both.true)
+    more low c.ring_at-here.ensures c.flag_at-wrapped.ensures (sym c.is_full-covers.ensures ∙ c.if-covers.false) (sym c.has_both-both.ensures ∙ c.if-both.true)
 
 pub overflow_add-tier-in-loop-kept : goal.overflow_add-tier-in-loop-kept
 overflow_add-tier-in-loop-kept c = omega (arith, c.loop-kept.invariant.tier-low)
@@ -92,7 +102,10 @@ loop-kept-smaller c = omega (arith, c.loop-kept.invariant.tier-low)
 pub loop-kept-preserved : goal.loop-kept-preserved
 loop-kept-preserved c =
     let more : let a = c.args in ltb c.loop-kept.tier (length (tiers_of a.schema (rows a.image.now))) ≡ true = sym c.has_tier-more.ensures ∙ c.if-not-more.false in
-    let there : c.args.first + c.loop-kept.tier < row_count c.args.image.now = let a = c.args in tier_there a.image.now c.requires.image_value a.schema c.loop-kept.tier c.requires.not_first.first-is (lt-is _ _ more) in
+    let there : c.args.first + c.loop-kept.tier < row_count c.args.image.now =
+    let a = c.args in
+    tier_there a.image.now c.requires.image_value a.schema c.loop-kept.tier c.requires.not_first.first-is (lt-is _ _ more) in
+    let low : c.args.first + c.loop-kept.tier < 32 = omega (arith, there, few_rows c.args.image.now c.requires.image_value) in
     let a = c.args in
     best_stays a.image.now a.flags a.schema a.first a.start a.end c.requires.not_first.first-is c.loop-kept.invariant
-    (sym c.has_tier-more.ensures ∙ c.if-not-more.false) (let it : c.args.first + c.loop-kept.tier < 32 = omega (arith, there, few_rows c.args.image.now c.requires.image_value) in it) c.ring_at-here.ensures c.flag_at-wrapped.ensures (sym c.is_full-covers.ensures ∙ c.if-covers.false) (sym c.has_both-both.ensures ∙ c.if-both.false)
+    more low c.ring_at-here.ensures c.flag_at-wrapped.ensures (sym c.is_full-covers.ensures ∙ c.if-covers.false) (sym c.has_both-both.ensures ∙ c.if-both.false)

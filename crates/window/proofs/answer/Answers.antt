@@ -12,12 +12,32 @@ pub gather_values-g-requires : goal.gather_values-g-requires
 gather_values-g-requires c = record { readable = c.requires.readable; asked = c.requires.asked }
 
 pub returns-then-seen-eq0 : goal.returns-then-seen-eq0
-returns-then-seen-eq0 c = (is-empty (let a = c.args in job_in a.slab.now a.q) c.args.window c.args.column (let a = c.args in walk a.q.slots a.place.slot a.place.left) c.gather_values-g.ensures.value c.if-seen-eq0.true, tt)
+returns-then-seen-eq0 c =
+    let job : Job =
+    let a = c.args in
+    job_in a.slab.now a.q in
+    let slots : List ℕ =
+    let a = c.args in
+    walk a.q.slots a.place.slot a.place.left in
+    (is-empty job c.args.window c.args.column slots c.gather_values-g.ensures.value c.if-seen-eq0.true, tt)
 
 pub returns-then-finite-eq0 : goal.returns-then-finite-eq0
-returns-then-finite-eq0 c = (is_nothing_lem (let a = c.args in job_in a.slab.now a.q) c.args.window c.args.column (let a = c.args in walk a.q.slots a.place.slot a.place.left) c.gather_values-g.ensures.value c.if-seen-eq0.false c.if-finite-eq0.true, tt)
+returns-then-finite-eq0 c =
+    let job : Job =
+    let a = c.args in
+    job_in a.slab.now a.q in
+    let slots : List ℕ =
+    let a = c.args in
+    walk a.q.slots a.place.slot a.place.left in
+    (is_nothing_lem job c.args.window c.args.column slots c.gather_values-g.ensures.value c.if-seen-eq0.false c.if-finite-eq0.true, tt)
 
 pub returns : goal.returns
 returns c =
+    let job : Job =
+    let a = c.args in
+    job_in a.slab.now a.q in
+    let slots : List ℕ =
+    let a = c.args in
+    walk a.q.slots a.place.slot a.place.left in
     let g = c.gather_values-g.ensures in
-    is_number (let a = c.args in job_in a.slab.now a.q) c.args.window c.args.column (let a = c.args in walk a.q.slots a.place.slot a.place.left) g.value c.fold_end-x.ensures c.if-seen-eq0.false c.if-finite-eq0.false g.finite_bound
+    is_number job c.args.window c.args.column slots g.value c.fold_end-x.ensures c.if-seen-eq0.false c.if-finite-eq0.false g.finite_bound

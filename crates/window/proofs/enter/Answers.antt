@@ -1,6 +1,5 @@
 -- `window::enter` meets its contract, one case a variant. Assumes nothing.
 use Rattle.window.specs.Gather.{entered}
-use borrow.Author.Rules.{rules}
 use Rattle.window.proofs.enter.Goals as goal
 
 pub returns-in-Outside : goal.returns-in-Outside

@@ -1,15 +1,11 @@
 -- `window::gather_values` meets its contract: the loop's invariant is request 2026-03's sentence (`SoFar`) of the slots read so far. Assumes nothing.
-use Prim.Native.Nat.{ℕ, suc, ◌-◌, ◌<◌, ◌≤◌}
+use Prim.Native.Nat.{suc, ◌-◌}
 use native.Mathlib.Nat.{sub_self}
 use mathlib.Core.Path.{◌≡◌}
 use native.Mathlib.Omega.{arith}
-use mathlib.Core.List.{List}
-use Rattle.window.specs.declared.Reading.{Reading}
-use Rattle.window.specs.declared.Gathered.{Gathered}
-use Rattle.window.specs.Gather.{begun, SoFar, none_yet, one_more}
+use Rattle.window.specs.Gather.{begun, none_yet, one_more}
 use Rattle.window.proofs.Laws.{few_held}
 use borrow.Author.Rules.{rules}
-use Rattle.window.proofs.gather_values.Invariants.{Inv}
 use Rattle.window.proofs.gather_values.Goals as goal
 
 pub loop-left-init : goal.loop-left-init

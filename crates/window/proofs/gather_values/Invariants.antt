@@ -1,13 +1,8 @@
-use Prim.Native.Nat.{ℕ, suc, ◌-◌, ◌<◌, ◌≤◌}
-use native.Mathlib.Nat.{sub_self}
-use mathlib.Core.Path.{◌≡◌}
-use native.Mathlib.Omega.{arith}
+use Prim.Native.Nat.{ℕ, ◌-◌, ◌<◌, ◌≤◌}
 use mathlib.Core.List.{List}
 use Rattle.window.specs.declared.Reading.{Reading}
 use Rattle.window.specs.declared.Gathered.{Gathered}
-use Rattle.window.specs.Gather.{begun, SoFar, none_yet, one_more}
-use Rattle.window.proofs.Laws.{few_held}
-use borrow.Author.Rules.{rules}
+use Rattle.window.specs.Gather.{SoFar}
 use Rattle.window.proofs.gather_values.Given as goal
 
 pub record Inv (s : List ℕ) (q : Reading) (window column slot₀ left₀ : ℕ) (g : Gathered) (slot left : ℕ) : Type 0 where

@@ -1,8 +1,6 @@
 -- `window::held_at` meets its contract, one case a return. Assumes nothing.
-use Prim.Native.Nat.{ℕ}
 use native.Mathlib.Omega.{arith}
 use Rattle.model.specs.Ring.{cell}
-use Rattle.model.specs.Window.{Job}
 use Rattle.window.specs.Parts.{job_in}
 use Rattle.laws.specs.Windows.{before_start, past_end, other_window, in_window, below_window, past_window, of_window}
 use borrow.Author.Rules.{rules}

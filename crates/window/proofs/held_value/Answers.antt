@@ -2,8 +2,6 @@
 use mathlib.Core.Path.{sym, ◌∙◌}
 use Rattle.window_apply.specs.Fine.{not_nan}
 use Rattle.window.proofs.Laws.{value_nan, value_infinite, value_finite, plain_value, plain_finite, special_infinite}
-use borrow.Author.Rules.{rules}
-use borrow.Author.Tests.{not-true, not-false}
 use Rattle.window.proofs.held_value.Goals as goal
 
 pub float_from_bits-x : goal.float_from_bits-x

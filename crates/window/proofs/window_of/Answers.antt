@@ -2,7 +2,6 @@
 use native.Mathlib.Omega.{arith}
 use native.Mathlib.Nat.{div-mul-le_self}
 use Rattle.model.specs.Window.{window_of}
-use borrow.Author.Rules.{rules}
 use Rattle.window.proofs.window_of.Goals as goal
 
 pub overflow_mul-result : goal.overflow_mul-result

@@ -1,6 +1,5 @@
 -- `window_apply::fold_end` meets its contract, one case a function. Assumes nothing.
 use Rattle.model.specs.Window.{fold_end}
-use Rattle.std.proofs.Common.{rules}
 use Rattle.window_apply.proofs.fold_end.Goals as goal
 
 pub returns-in-Average : goal.returns-in-Average

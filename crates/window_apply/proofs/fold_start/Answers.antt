@@ -2,7 +2,6 @@
 use lib.Ieee.{nan_bits}
 use Rattle.model.specs.Window.{fold_start}
 use Rattle.window_apply.proofs.Laws.{from_zero_lem, from_inf, from-minus_inf}
-use Rattle.std.proofs.Common.{rules}
 use Rattle.window_apply.proofs.fold_start.Goals as goal
 
 pub float_from_bits-result : goal.float_from_bits-result

@@ -1,7 +1,6 @@
 -- `window_apply::fold_step` meets its contract, one case a function. Assumes nothing.
 use Rattle.model.specs.Window.{fold_step}
 use Rattle.window_apply.proofs.Laws.{min_yes, min_no, max_yes, max_no}
-use Rattle.std.proofs.Common.{rules}
 use Rattle.window_apply.proofs.fold_step.Goals as goal
 
 pub returns-in-Average : goal.returns-in-Average

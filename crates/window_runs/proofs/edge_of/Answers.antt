@@ -35,42 +35,95 @@ stamp_of-t-requires c = record { sized = c.requires.readable.sized; slot_lt_n = 
 
 pub loop-v-preserved-then-t-start : goal.loop-v-preserved-then-t-start
 loop-v-preserved-then-t-start c =
-    let job : Job = let a = c.args in onward (job_in a.slab.now a.q) a.start in
-    let behind : ℕ = let a = c.args in a.place.slot + a.place.left in
-    let l = c.loop-v in (let l = c.loop-v in let a = c.args in let k = c.slot_at-slot in record { from_first = omega (arith, c.loop-v-test.true); v_in = omega (arith, l.invariant.v_in); head_in = l.invariant.head_in; edged = met_more job c.requires.readable.some_long a.q.slots behind l.v (omega (arith, c.loop-v-test.true)) l.invariant.v_in k.ensures.0 k.ensures.1 c.stamp_of-t.ensures l.invariant.edged (early_met _ _ _ _ _ _ _ c.if-t-start.true); })
+    let job : Job =
+    let a = c.args in
+    onward (job_in a.slab.now a.q) a.start in
+    let behind : ℕ =
+    let a = c.args in
+    a.place.slot + a.place.left in
+    let l = c.loop-v in (let l = c.loop-v in let a = c.args in let k = c.slot_at-slot in record {
+      from_first = omega (arith, c.loop-v-test.true);
+      v_in = omega (arith, l.invariant.v_in);
+      head_in = l.invariant.head_in;
+      edged = met_more job c.requires.readable.some_long a.q.slots
+          behind l.v (omega (arith, c.loop-v-test.true)) l.invariant.v_in k.ensures.0 k.ensures.1 c.stamp_of-t.ensures l.invariant.edged (early_met _ _ _ _ _ _ _ c.if-t-start.true);
+    })
 
 pub loop-v-preserved-then-t-end : goal.loop-v-preserved-then-t-end
 loop-v-preserved-then-t-end c =
-    let job : Job = let a = c.args in onward (job_in a.slab.now a.q) a.start in
-    let behind : ℕ = let a = c.args in a.place.slot + a.place.left in
-    let l = c.loop-v in (let l = c.loop-v in let a = c.args in let k = c.slot_at-slot in record { from_first = omega (arith, c.loop-v-test.true); v_in = omega (arith, l.invariant.v_in); head_in = l.invariant.head_in; edged = met_more job c.requires.readable.some_long a.q.slots behind l.v (omega (arith, c.loop-v-test.true)) l.invariant.v_in k.ensures.0 k.ensures.1 c.stamp_of-t.ensures l.invariant.edged (late_met _ _ _ _ _ _ _ c.if-t-end.true); })
+    let job : Job =
+    let a = c.args in
+    onward (job_in a.slab.now a.q) a.start in
+    let behind : ℕ =
+    let a = c.args in
+    a.place.slot + a.place.left in
+    let l = c.loop-v in (let l = c.loop-v in let a = c.args in let k = c.slot_at-slot in record {
+      from_first = omega (arith, c.loop-v-test.true);
+      v_in = omega (arith, l.invariant.v_in);
+      head_in = l.invariant.head_in;
+      edged = met_more job c.requires.readable.some_long a.q.slots
+          behind l.v (omega (arith, c.loop-v-test.true)) l.invariant.v_in k.ensures.0 k.ensures.1 c.stamp_of-t.ensures l.invariant.edged (late_met _ _ _ _ _ _ _ c.if-t-end.true);
+    })
 
 pub window_of-low-requires : goal.window_of-low-requires
 window_of-low-requires c = c.requires.readable.some_long
 
 pub loop-v-preserved-then-t-low : goal.loop-v-preserved-then-t-low
 loop-v-preserved-then-t-low c =
-    let job : Job = let a = c.args in onward (job_in a.slab.now a.q) a.start in
-    let behind : ℕ = let a = c.args in a.place.slot + a.place.left in
+    let job : Job =
+    let a = c.args in
+    onward (job_in a.slab.now a.q) a.start in
+    let behind : ℕ =
+    let a = c.args in
+    a.place.slot + a.place.left in
     let l = c.loop-v in
-    (let l = c.loop-v in let a = c.args in let k = c.slot_at-slot in record { from_first = omega (arith, c.loop-v-test.true); v_in = omega (arith, l.invariant.v_in); head_in = (omega (arith, l.invariant.v_in)); edged = met_more job c.requires.readable.some_long a.q.slots behind l.v (omega (arith, c.loop-v-test.true)) l.invariant.v_in k.ensures.0 k.ensures.1 c.stamp_of-t.ensures l.invariant.edged (lower_met _ _ _ _ _ _ _ (omega arith) (omega arith) c.if-t-low.true c.window_of-low.ensures.0); })
+    (let l = c.loop-v in let a = c.args in let k = c.slot_at-slot in record {
+      from_first = omega (arith, c.loop-v-test.true);
+      v_in = omega (arith, l.invariant.v_in);
+      head_in =
+          (omega (arith, l.invariant.v_in));
+      edged = met_more job c.requires.readable.some_long a.q.slots behind l.v (omega (arith, c.loop-v-test.true)) l.invariant.v_in k.ensures.0 k.ensures.1
+          c.stamp_of-t.ensures l.invariant.edged (lower_met _ _ _ _ _ _ _ (omega arith) (omega arith) c.if-t-low.true c.window_of-low.ensures.0);
+    })
 
 pub window_of-end-requires : goal.window_of-end-requires
 window_of-end-requires c = c.requires.readable.some_long
 
 pub loop-v-preserved-then-q-t : goal.loop-v-preserved-then-q-t
 loop-v-preserved-then-q-t c =
-    let job : Job = let a = c.args in onward (job_in a.slab.now a.q) a.start in
-    let behind : ℕ = let a = c.args in a.place.slot + a.place.left in
+    let job : Job =
+    let a = c.args in
+    onward (job_in a.slab.now a.q) a.start in
+    let behind : ℕ =
+    let a = c.args in
+    a.place.slot + a.place.left in
     let l = c.loop-v in
-    (let l = c.loop-v in let a = c.args in let k = c.slot_at-slot in record { from_first = omega (arith, c.loop-v-test.true); v_in = omega (arith, l.invariant.v_in); head_in = l.invariant.head_in; edged = met_more job c.requires.readable.some_long a.q.slots behind l.v (omega (arith, c.loop-v-test.true)) l.invariant.v_in k.ensures.0 k.ensures.1 c.stamp_of-t.ensures l.invariant.edged (above_met _ _ _ _ _ _ _ (omega arith) (omega arith) (omega arith) c.if-q-t.true c.window_of-end.ensures.0); })
+    (let l = c.loop-v in let a = c.args in let k = c.slot_at-slot in record {
+      from_first = omega (arith, c.loop-v-test.true);
+      v_in = omega (arith, l.invariant.v_in);
+      head_in =
+          l.invariant.head_in;
+      edged = met_more job c.requires.readable.some_long a.q.slots behind l.v (omega (arith, c.loop-v-test.true)) l.invariant.v_in k.ensures.0 k.ensures.1
+          c.stamp_of-t.ensures l.invariant.edged (above_met _ _ _ _ _ _ _ (omega arith) (omega arith) (omega arith) c.if-q-t.true c.window_of-end.ensures.0);
+    })
 
 pub loop-v-preserved : goal.loop-v-preserved
 loop-v-preserved c =
-    let job : Job = let a = c.args in onward (job_in a.slab.now a.q) a.start in
-    let behind : ℕ = let a = c.args in a.place.slot + a.place.left in
+    let job : Job =
+    let a = c.args in
+    onward (job_in a.slab.now a.q) a.start in
+    let behind : ℕ =
+    let a = c.args in
+    a.place.slot + a.place.left in
     let l = c.loop-v in
-    (let l = c.loop-v in let a = c.args in let k = c.slot_at-slot in record { from_first = omega (arith, c.loop-v-test.true); v_in = omega (arith, l.invariant.v_in); head_in = (omega (arith, l.invariant.v_in)); edged = met_more job c.requires.readable.some_long a.q.slots behind l.v (omega (arith, c.loop-v-test.true)) l.invariant.v_in k.ensures.0 k.ensures.1 c.stamp_of-t.ensures l.invariant.edged (same_met _ _ _ _ _ _ _ (omega arith) (omega arith) (omega arith) c.if-q-t.false); })
+    (let l = c.loop-v in let a = c.args in let k = c.slot_at-slot in record {
+      from_first = omega (arith, c.loop-v-test.true);
+      v_in = omega (arith, l.invariant.v_in);
+      head_in =
+          (omega (arith, l.invariant.v_in));
+      edged = met_more job c.requires.readable.some_long a.q.slots behind l.v (omega (arith, c.loop-v-test.true)) l.invariant.v_in k.ensures.0 k.ensures.1
+          c.stamp_of-t.ensures l.invariant.edged (same_met _ _ _ _ _ _ _ (omega arith) (omega arith) (omega arith) c.if-q-t.false);
+    })
 
 pub slot_at-slot-requires-2 : goal.slot_at-slot-requires-2
 slot_at-slot-requires-2 c = omega (arith, c.loop-v.invariant.head_in, c.requires.slot_lt_slots.0, c.requires.slot_lt_slots.1)
@@ -80,8 +133,12 @@ overflow_sub-first c = omega (arith, c.loop-v.invariant.head_in)
 
 pub returns : goal.returns
 returns c =
-    let job : Job = let a = c.args in onward (job_in a.slab.now a.q) a.start in
-    let behind : ℕ = let a = c.args in a.place.slot + a.place.left in
+    let job : Job =
+    let a = c.args in
+    onward (job_in a.slab.now a.q) a.start in
+    let behind : ℕ =
+    let a = c.args in
+    a.place.slot + a.place.left in
     let a = c.args in
     let i = c.loop-v.invariant in
     let there = subst (λ (x : ℕ). Edged job a.q.slots (walk a.q.slots (c.loop-v.v % a.q.slots) (behind - c.loop-v.v)) c.loop-v.end c.loop-v.low (record { slot = x; left = behind - c.loop-v.head }))

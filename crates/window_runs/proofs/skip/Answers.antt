@@ -56,7 +56,8 @@ loop-left-preserved-then-not-inside c =
     let l = c.loop-left in
     let out = sym c.in_range-inside.ensures ∙ c.if-not-inside.true in
     let a = c.args in
-    over_more a.slab.now a.q (a.window + a.width) a.place.slot a.place.left l.slot l.left l.last c.loop-left-test.true l.invariant c.stamp_of-t.ensures c.next_slot-slot.ensures (ap (λ (x : Bool). cond x (l.left - 1) l.last) (sym out)) (not-inside _ _ _ _ out)
+    over_more a.slab.now a.q (a.window + a.width) a.place.slot a.place.left l.slot l.left l.last c.loop-left-test.true l.invariant c.stamp_of-t.ensures c.next_slot-slot.ensures
+    (ap (λ (x : Bool). cond x (l.left - 1) l.last) (sym out)) (not-inside _ _ _ _ out)
 
 pub returns-then-found : goal.returns-then-found
 returns-then-found c =
@@ -80,7 +81,8 @@ loop-left-preserved c =
     let l = c.loop-left in
     let inside = sym c.in_range-inside.ensures ∙ c.if-not-inside.false in
     let a = c.args in
-    over_more a.slab.now a.q (a.window + a.width) a.place.slot a.place.left l.slot l.left l.last c.loop-left-test.true l.invariant c.stamp_of-t.ensures c.next_slot-slot-in-loop-left.ensures (ap (λ (x : Bool). cond x (l.left - 1) l.last) (sym inside)) (sym c.if-found.false ∙ c.is_from-found.ensures)
+    over_more a.slab.now a.q (a.window + a.width) a.place.slot a.place.left l.slot l.left l.last c.loop-left-test.true l.invariant c.stamp_of-t.ensures c.next_slot-slot-in-loop-left.ensures
+    (ap (λ (x : Bool). cond x (l.left - 1) l.last) (sym inside)) (sym c.if-found.false ∙ c.is_from-found.ensures)
 
 pub returns : goal.returns
 returns c =
