@@ -54,7 +54,7 @@ fn carry_batch(image: &mut [u8], flags: model::Flags, calls: &[u8], at: usize) -
 // Carries out the opening at an offset, which is handed its own flags. Answers the flags.
 fn carry_open(image: &[u8], calls: &[u8], at: usize) -> model::Flags
     requires { at + 32 ≤ length calls.now }
-    ensures { lent_of image.entry.now result ≡ opening (record { image = image.entry.now; flags = handed_at calls.now at }) }
+    ensures { lent_of image.now result ≡ opening (record { image = image.now; flags = handed_at calls.now at }) }
 {
     let number = field::get_u32(calls, at + 4);
     let handed = flag_bits::flags_of(number as u32);

@@ -1,5 +1,5 @@
 -- `tie::carry_all` meets its contract: what each call leaves is lent to the next. Assumes nothing.
-use mathlib.Core.Path.{ap, ◌∙◌}
+use mathlib.Core.Path.{ap}
 use Rattle.model.specs.Store.{Done}
 use Rattle.lookup.specs.Parts.{lent_of}
 use Rattle.tie_calls.specs.Encoded.{calls_in}

@@ -1,5 +1,4 @@
 -- `tie::demand` meets its contract, by what each of the calls ensures and the theorem. Assumes nothing.
-use mathlib.Core.Path.{◌∙◌}
 use Rattle.tie.proofs.Laws.{demanded}
 use Rattle.tie.proofs.demand.Goals as goal
 
