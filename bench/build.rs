@@ -1,4 +1,4 @@
-//! Links librondo.a, which `rt staticlib rondo` makes.
+//! Links librondo.a, which tools/archive makes.
 use std::{env, path::PathBuf};
 
 fn main() {

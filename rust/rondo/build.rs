@@ -1,4 +1,4 @@
-//! Finds librondo.a, or has it built: RONDO_LIB_DIR first, then the repository's target/staticlib, then `rt staticlib rondo`.
+//! Finds librondo.a, or has it built: RONDO_LIB_DIR first, then the repository's target/staticlib, then tools/archive.
 
 use std::env;
 use std::fs;
@@ -40,7 +40,7 @@ fn find(watched: &mut Vec<PathBuf>) -> Result<PathBuf, String> {
     if folder.join(ARCHIVE).is_file() {
         Ok(folder)
     } else {
-        Err(advice(&format!("`rt staticlib rondo` ended well, and {} is not there", folder.join(ARCHIVE).display())))
+        Err(advice(&format!("tools/archive ended well, and {} is not there", folder.join(ARCHIVE).display())))
     }
 }
 
@@ -79,23 +79,23 @@ fn fresh(archive: &Path, newest: Option<SystemTime>) -> bool {
 
 /// Has the archive built in the repository's root.
 fn build(root: &Path) -> Result<(), String> {
-    let done = Command::new("rt").args(["staticlib", "rondo"]).current_dir(root).output();
+    let done = Command::new(root.join("tools/archive")).output();
     match done {
         Ok(out) if out.status.success() => Ok(()),
         Ok(out) => Err(advice(&format!(
-            "`rt staticlib rondo` in {} failed:\n{}\n{}",
+            "tools/archive in {} failed:\n{}\n{}",
             root.display(),
             String::from_utf8_lossy(&out.stdout).trim_end(),
             String::from_utf8_lossy(&out.stderr).trim_end(),
         ))),
-        Err(e) => Err(advice(&format!("`rt staticlib rondo` in {} could not be started: {e}", root.display()))),
+        Err(e) => Err(advice(&format!("tools/archive in {} could not be started: {e}", root.display()))),
     }
 }
 
 fn advice(why: &str) -> String {
     format!(
         "The crate rondo links the proved library {ARCHIVE}, and has none that is up to date.\n{why}\n\
-         Either install the Rattle kit (`rt`) and run `rt staticlib rondo` in the repository's root,\n\
+         Either install the Rattle kit (`rt`) and run `tools/archive` in the repository's root,\n\
          or set RONDO_LIB_DIR to a folder that holds {ARCHIVE}."
     )
 }

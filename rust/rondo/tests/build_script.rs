@@ -2,7 +2,7 @@
 
 use std::env;
 use std::fs;
-use std::os::unix::fs::PermissionsExt;
+use std::os::unix::fs::{PermissionsExt, symlink};
 use std::path::{Path, PathBuf};
 use std::process::Command;
 use std::time::{Duration, SystemTime};
@@ -16,16 +16,22 @@ fn script() -> PathBuf {
     scripts.max_by_key(|path| fs::metadata(path).unwrap().modified().unwrap()).unwrap()
 }
 
-/// A repository with one source and nothing built, and a folder for commands.
+/// A repository with one source, tools/archive and nothing built, and a folder for commands.
 struct Repository(PathBuf);
 
 impl Repository {
     fn new(name: &str) -> Self {
         let root = env::temp_dir().join(format!("rondo-build-{}-{name}", std::process::id()));
-        for folder in ["crates/model/src", "rust/rondo", "target/staticlib", "bin", "lent"] {
+        for folder in ["crates/model/src", "crates/rondo/out", "rust/rondo", "target/staticlib", "tools", "bin", "lent"] {
             fs::create_dir_all(root.join(folder)).unwrap();
         }
         fs::write(root.join("crates/model/src/lib.rt"), "").unwrap();
+        fs::copy(Path::new(env!("CARGO_MANIFEST_DIR")).join("../../tools/archive"), root.join("tools/archive")).unwrap();
+        let path = env::var_os("PATH").unwrap();
+        for tool in ["mkdir", "cp", "mv"] {
+            let real = env::split_paths(&path).map(|folder| folder.join(tool)).find(|path| path.is_file()).unwrap();
+            symlink(real, root.join("bin").join(tool)).unwrap();
+        }
         Repository(root.canonicalize().unwrap())
     }
 
@@ -96,7 +102,7 @@ fn the_archive_of_the_repository() {
     repository.found(None, "target/staticlib");
     // older than a source, and no rt
     repository.archive("target/staticlib", 120);
-    repository.refused(None, &["could not be started: No such file or directory", "run `rt staticlib rondo`", ADVICE]);
+    repository.refused(None, &["there is no command rt on PATH", "run `tools/archive`", ADVICE]);
 }
 
 fn an_archive_is_built() {
@@ -105,7 +111,7 @@ fn an_archive_is_built() {
     repository.refused(None, &["rt: not proved: a lemma", ADVICE]);
     repository.rt("exit 0");
     repository.refused(None, &["ended well, and", ADVICE]);
-    repository.rt("[ \"$*\" = 'staticlib rondo' ] && : > target/staticlib/librondo.a");
+    repository.rt("[ \"$PWD $*\" = \"${0%/bin/rt}/crates/rondo lib --cpu x86-64\" ] && : > out/librondo.a");
     repository.found(None, "target/staticlib");
 }
 
