@@ -6,8 +6,8 @@ use Rattle.model.specs.declared.Queried.TheVariants as Q
 use Rattle.model.specs.Bytes.{part}
 use Rattle.model.specs.Read.{Reader}
 use Rattle.model.specs.Lent.{Lent}
-use Rattle.model.specs.Query.{QueryReply, query, query_auto, replied_by}
-use Rattle.model.specs.Store.{Call, query_call, auto_call, Reply, refused, done, wrote, read, read_or, call, queried_reply}
+use Rattle.model.specs.Query.{QueryReply, replied_by}
+use Rattle.model.specs.Store.{Call, Reply, refused, done, wrote, read, read_or, call, queried_reply}
 use Rattle.store_reads.specs.declared.Start.{Start}
 
 -- a reader at its end, over no bytes
@@ -45,20 +45,7 @@ starts s t p q e r = let same : t.queried ≡ q = ap (λ (u : Start). u.queried)
 abbrev pub reader_at : List ℕ → Start → Reader
 reader_at s t = record { slab = part s t.from (t.to - t.from); column = t.column; start = t.start; end = t.end; place = record { slot = t.slot; left = t.left } }
 
-started : (s : List ℕ) (q : Queried) → reader_at s (start_of q) ≡ reply_reader (queried_reply s q)
+pub started : (s : List ℕ) (q : Queried) → reader_at s (start_of q) ≡ reply_reader (queried_reply s q)
 unfolding part start_of reply_reader no_reader queried_reply read_or replied_by
 started s (Q.Refused r) = refl
 started s (Q.Answer f) = refl
-
--- ---- the cores' promises
-
-answers-from : (l : Lent) (c : Call) {t : Start} → queried_reply l.image t.queried ≡ (call l c).reply → t ≡ start_of t.queried → Answers l c t.queried (reader_at l.image t)
-answers-from l c {t} e st = record { reply_is = e; reader_is = ap (reader_at l.image) st ∙ started l.image t.queried ∙ ap reply_reader e }
-
-pub query-answers : {l : Lent} {k c j a e : ℕ} {t : Start} → replied_by l.image t.queried ≡ query l k c j a e → t ≡ start_of t.queried → Answers l (query_call k c j a e) t.queried (reader_at l.image t)
-unfolding call queried_reply
-query-answers {l} {k} {c} {j} {a} {e} p st = answers-from l (query_call k c j a e) (ap read_or p) st
-
-pub auto_answers : {l : Lent} {k c a e : ℕ} {t : Start} → replied_by l.image t.queried ≡ query_auto l k c a e → t ≡ start_of t.queried → Answers l (auto_call k c a e) t.queried (reader_at l.image t)
-unfolding call queried_reply
-auto_answers {l} {k} {c} {a} {e} p st = answers-from l (auto_call k c a e) (ap read_or p) st

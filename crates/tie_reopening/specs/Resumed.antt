@@ -9,7 +9,7 @@ use Rattle.model.specs.Lent.{Lent}
 use Rattle.model.specs.Store.{Call, query_call, auto_call, Reply, call, after, shown, queried_reply}
 use Rattle.demand.specs.Demand.{handed_out}
 use Rattle.reopening.specs.Reopening.{History, left, reopened, OpeningChangesNothing}
-use Rattle.reopening_proved.specs.Theorem.{proof}
+use Rattle.reopening_proved.proofs.Theorem.{proof}
 use Rattle.fetch.specs.Fetch.{words}
 use Rattle.lookup.specs.Parts.{lent_of}
 use Rattle.tie_calls.specs.Encoded.{calls_in}

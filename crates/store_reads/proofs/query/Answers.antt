@@ -1,5 +1,5 @@
 -- `store_reads::query` meets its contract: the by-value core's promise, over the part that its answer names. Assumes nothing.
-use Rattle.store_reads.specs.Answers.{query-answers}
+use Rattle.store_reads.proofs.Answers.{query-answers}
 use Rattle.store_reads.proofs.query.Goals as goal
 
 pub returns : goal.returns

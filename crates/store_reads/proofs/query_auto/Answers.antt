@@ -1,5 +1,5 @@
 -- `store_reads::query_auto` meets its contract: the by-value core's promise, over the part that its answer names. Assumes nothing.
-use Rattle.store_reads.specs.Answers.{auto_answers}
+use Rattle.store_reads.proofs.Answers.{auto_answers}
 use Rattle.store_reads.proofs.query_auto.Goals as goal
 
 pub returns : goal.returns

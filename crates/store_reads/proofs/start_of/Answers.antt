@@ -1,6 +1,5 @@
 -- `store_reads::start_of` meets its contract, one case a return. Assumes nothing.
 use Rattle.store_reads.specs.Answers.{start_of}
-use borrow.Author.Rules.{rules}
 use Rattle.store_reads.proofs.start_of.Goals as goal
 
 pub returns-in_default : goal.returns-in_default

@@ -1,6 +1,5 @@
 -- `store_reads::start_query` meets its contract: the core's answer, and where its reader starts. Assumes nothing.
 use Rattle.store_reads.specs.Answers.{starts}
-use borrow.Author.Rules.{rules}
 use Rattle.store_reads.proofs.start_query.Goals as goal
 
 pub returns : goal.returns

@@ -27,9 +27,9 @@ use Rattle.image_theory.specs.Checks.{tiers_ok}
 use Rattle.image_theory.specs.Good.{count_kept}
 use Rattle.image_theory.specs.Pairs.{slab_of_lem, stays_if}
 use Rattle.reopening_proved.specs.Tidy.{Tidy, tidy_write, tidy_opened}
-use Rattle.reopening_proved.specs.Same.{Same, same-reading}
+use Rattle.reopening_proved.proofs.Same.{Same, same-reading}
 use Rattle.reopening_proved.specs.Each.{Each, pair_if_lem}
-use Rattle.reopening_proved.specs.Windows.{filled-same}
+use Rattle.reopening_proved.proofs.Windows.{filled-same}
 
 -- every ring of the store is tidy
 abbrev pub AllTidy : Lent → Type 0

@@ -11,8 +11,8 @@ use Rattle.reopening.specs.Reopening.{History, created, left, reopened, OpeningC
 use Rattle.image_theory.specs.Calls.{opened_image, after-append}
 use Rattle.reopening_proved.specs.Tidy.{Tidy, tidy_blank, tidy_write, tidy_opened}
 use Rattle.reopening_proved.specs.Each.{each-call, each_left}
-use Rattle.reopening_proved.specs.Level.{AllTidy}
-use Rattle.reopening_proved.specs.Twins.{Twins, reply_same, twins_after}
+use Rattle.reopening_proved.proofs.Level.{AllTidy}
+use Rattle.reopening_proved.proofs.Twins.{Twins, reply_same, twins_after}
 
 -- ---- the claim
 

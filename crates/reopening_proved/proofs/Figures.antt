@@ -8,7 +8,7 @@ use Rattle.model.specs.Query.{QueryReply, found, not_found, query}
 use Rattle.model.specs.Figure.{end_of_time, reading, last_after, last_on, PanelReply, shows_nothing, not_shown, shown_point, panel_on, panel, ServiceReply, serves_nothing, not_served, served_point, service_on, service}
 use Rattle.model.specs.Store.{Call, query_call, Shown, refusal, accepted, writes, points, shown, read_or, call, after}
 use Rattle.reopening.specs.Reopening.{History, left, reopened, OpeningChangesNothing}
-use Rattle.reopening_proved.specs.Theorem.{proof}
+use Rattle.reopening_proved.proofs.Theorem.{proof}
 
 -- the figures by what is seen of the reading over all time
 abbrev panel_seen : Shown → PanelReply
