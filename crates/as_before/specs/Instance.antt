@@ -13,7 +13,7 @@ use Rattle.model.specs.Cases.{Cases-defs, tier_of, plan_of, ring10, plan, num, i
 use Rattle.reopening.specs.Reopening.{Reopening-defs}
 use Rattle.as_before.specs.Before as Before
 use Rattle.as_before.specs.Before.{Before-defs}
-use Rattle.as_before.specs.AsBefore.{AsBefore-defs, stamps_of, in_order, no_run_refused, AsBefore, passed_over, NonePassedOver}
+use Rattle.as_before.specs.AsBefore.{AsBefore-defs, stamps_of, in_order, no_run_refused, passed_over, NonePassedOver}
 
 unfoldable pub entry : ℕ → ℕ → Entry
 entry k v = record { schema = k; column = 0; value = num v }
@@ -95,18 +95,13 @@ pub left_was : left_in (Before.after mixed calls) ≡ mixed_left
 unfolding Instance-defs mixed_left
 left_was = refl
 
-mixed_in_order : T (in_order mixed calls)
+pub mixed_in_order : T (in_order mixed calls)
 unfolding Instance-defs
 mixed_in_order = tt
 
-mixed_none_refused : T (no_run_refused Before.call mixed calls)
+pub mixed_none_refused : T (no_run_refused Before.call mixed calls)
 unfolding Instance-defs
 mixed_none_refused = tt
-
--- the claim reaches it: its suppositions, and no others, are met there
-pub reaches : AsBefore → (after mixed calls ≡ Before.after mixed calls) × (replies mixed calls ≡ Before.replies mixed calls)
-unfolding AsBefore mixed made
-reaches claim = claim mixed_plan (replicate 540 9) (replicate 32 true) plan_accepted calls mixed_in_order mixed_none_refused
 
 -- ---- how order is judged
 

@@ -2,6 +2,4 @@ pub mod Upto
 pub mod Within
 pub mod Fill
 pub mod Capped
-pub mod Run
 pub mod Calls
-pub mod Theorem

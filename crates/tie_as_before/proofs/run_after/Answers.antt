@@ -2,7 +2,7 @@
 use mathlib.Core.Path.{ap, ◌∙◌}
 use Rattle.model.specs.Lent.{Lent}
 use Rattle.model.specs.Store.{consolidate_call, call, after}
-use Rattle.as_before_proved.specs.Theorem.{proof, none_passed-over}
+use Rattle.as_before_proved.proofs.Theorem.{proof, none_passed-over}
 use Rattle.tie_calls.specs.Encoded.{calls_in}
 use Rattle.tie_as_before.specs.RanAfter.{ran-after}
 use Rattle.tie_as_before.proofs.run_after.Goals as goal

@@ -21,8 +21,9 @@ use Rattle.laws.specs.Tests.{yes_lt, eq_is}
 use Rattle.image_theory.specs.Good.{tier_of_lem, count_kept}
 use Rattle.image_theory.specs.Pairs.{slab_of_lem, newest_of, filled-long, filled-sound, stays_if}
 use Rattle.as_before_proved.specs.Upto.{Upto}
-use Rattle.as_before_proved.specs.Within.{pair-within}
-use Rattle.as_before_proved.specs.Fill.{bound, AllSame, on-fill}
+use Rattle.as_before_proved.proofs.Within.{pair-within}
+use Rattle.as_before_proved.specs.Fill.{bound}
+use Rattle.as_before_proved.proofs.Fill.{AllSame, on-fill}
 use Rattle.as_before_proved.specs.Capped.{Capped, put-pair}
 
 -- u is the run v of the rules before, p writes passed over being none; not refused, it leaves no ring ahead

@@ -20,8 +20,8 @@ use Rattle.image_theory.specs.Calls.{stays_call, refused_call, verdict_after}
 use Rattle.fresh_theory.specs.Creation.{low_open, good-created, created_like, created_flags, created-blank}
 use Rattle.as_before_proved.specs.Upto.{Upto}
 use Rattle.as_before_proved.specs.Capped.{Capped, rows_alike}
-use Rattle.as_before_proved.specs.Run.{run-same}
-use Rattle.as_before_proved.specs.Calls.{fall_left, fall_right, cap_by, kept, done_same}
+use Rattle.as_before_proved.proofs.Run.{run-same}
+use Rattle.as_before_proved.proofs.Calls.{fall_left, fall_right, cap_by, kept, done_same}
 
 -- ---- from creation
 

@@ -1,0 +1,5 @@
+pub mod Calls
+pub mod Fill
+pub mod Run
+pub mod Theorem
+pub mod Within
