@@ -10,7 +10,7 @@ use Rattle.model.specs.Cases.{num, plan}
 use Rattle.demand.specs.Demand.{Situation, Event, Sample, samples_in, supposed, used, newest_windows, is_closed, in_window, sum_of, count, finest, coarsest, history, samples, tier_interval, events, after_run, created, up_to_run, due}
 use Rattle.demand.specs.Instance.{Instance-defs, minus, both, calls, story, sample, did, accepted_plan, suited-plan}
 use Rattle.demand.specs.PanelBound.{Bound-defs, last_start, last_due, shown_within, panel_after, PanelWithin}
-use Rattle.demand_proved.specs.Instance.{one_schema, three-rows}
+use Rattle.demand_proved.proofs.Instance.{one_schema, three-rows}
 use Rattle.figure_bound.specs.Theorem.{proof}
 
 -- the tick 150 comes before the run: 0 for column 1, -14 for column 0

@@ -21,11 +21,11 @@ use Rattle.sample_theory.specs.Lists.{multiple}
 use Rattle.sample_theory.specs.Ticks.{Steady}
 use Rattle.sample_theory.specs.Supposed.{steady}
 use Rattle.demand_proved.specs.Values.{tier_long}
-use Rattle.demand_proved.specs.Plan.{ratio, per, some_rows, long, coarsest-is, interval-ticks}
+use Rattle.demand_proved.proofs.Plan.{ratio, per, some_rows, long, coarsest-is, interval-ticks}
 use Rattle.demand_proved.specs.Stronger.{Planned, Supposition, StrongerDemand}
-use Rattle.demand_proved.specs.Story.{samples_are, not_zero}
-use Rattle.demand_proved.specs.Tests.{clauses}
-use Rattle.demand_proved.specs.Theorem as third
+use Rattle.demand_proved.proofs.Story.{samples_are, not_zero}
+use Rattle.demand_proved.proofs.Tests.{clauses}
+use Rattle.demand_proved.proofs.Theorem as third
 use Rattle.figure_bound.specs.Near.{shown_near}
 use Rattle.figure_bound.specs.Samples.{sum_size, count_window}
 use Rattle.figure_bound.specs.Last.{last_window, some_window, last_near}

@@ -14,7 +14,7 @@ use Rattle.model.specs.Store.{after}
 use Rattle.demand.specs.Demand.{Sample, count, is_closed, in_window, sum_of, within, each, Situation, finest, after_run, samples, answers, tier_interval, due}
 use Rattle.laws.specs.Tests.{split3}
 use Rattle.demand_proved.specs.Stronger.{Supposition, StrongerDemand}
-use Rattle.demand_proved.specs.Theorem.{stronger}
+use Rattle.demand_proved.proofs.Theorem.{stronger}
 use Rattle.fetch.specs.Fetch.{words}
 use Rattle.tie_calls.specs.Encoded.{calls_in}
 

@@ -2,8 +2,8 @@
 -- added to its supposition and nothing taken from its conclusion. It follows from `stronger`, which supposes less (Stronger). Assumes nothing.
 use Rattle.demand.specs.Demand.{finest, answers, tier_interval, due, ThirdDemand}
 use Rattle.demand_proved.specs.Stronger.{StrongerDemand}
-use Rattle.demand_proved.specs.Story.{samples_are, as_promised}
-use Rattle.demand_proved.specs.Tests.{clauses}
+use Rattle.demand_proved.proofs.Story.{samples_are, as_promised}
+use Rattle.demand_proved.proofs.Tests.{clauses}
 
 pub stronger : StrongerDemand
 unfolding StrongerDemand finest answers tier_interval due

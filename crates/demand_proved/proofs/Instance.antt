@@ -6,7 +6,7 @@ use Rattle.model.specs.Image.{row_count, schemas}
 use Rattle.demand.specs.Demand.{Event, samples_in, used, supposed, finest, coarsest, created, up_to_run, after_run, samples, tier_interval, due, each, answers, ThirdDemand}
 use Rattle.model.specs.Cases.{plan}
 use Rattle.demand.specs.Instance.{Instance-defs, tiers, story, did, accepted_plan, suited-plan, history-is, met, quiet}
-use Rattle.demand_proved.specs.Theorem.{proof}
+use Rattle.demand_proved.proofs.Theorem.{proof}
 
 pub one_schema : schemas (plan tiers) ≡ 1
 unfolding Instance-defs

@@ -16,7 +16,7 @@ use Rattle.run_theory.specs.Setup.{Setup}
 use Rattle.run_theory.specs.Between.{Fits}
 use Rattle.demand_proved.specs.Values.{tier_long, so_far, long_pos, touched-lt, touched-from, so_closed, OffsetsIn, so_finite, so_given, finite-bits}
 use Rattle.demand_proved.specs.Stronger.{Planned}
-use Rattle.demand_proved.specs.Plan.{ratio, coarsest_of, per, some_rows, next-interval, ratio_in, coarsest-is, some_per, next-per, span, interval-ticks, per-ticks, ratios, series-same}
+use Rattle.demand_proved.proofs.Plan.{ratio, coarsest_of, per, some_rows, next-interval, ratio_in, coarsest-is, some_per, next-per, span, interval-ticks, per-ticks, ratios, series-same}
 
 -- column c's pattern at each tick, d apart
 abbrev pub tick_value : ℕ → List Sample → ℕ → ℕ → ℕ

@@ -36,9 +36,9 @@ use Rattle.demand_proved.specs.Values.{tier_long, tier_value, so_far, length-val
 use Rattle.demand_proved.specs.Exact.{within-is}
 use Rattle.demand_proved.specs.Sums.{OnTicks, window_count, window_sum}
 use Rattle.demand_proved.specs.Stronger.{Planned, Supposition}
-use Rattle.demand_proved.specs.Plan.{ratio, coarsest_of, per, some_rows, one_schema, long, coarsest-is, interval-ticks, ratios}
+use Rattle.demand_proved.proofs.Plan.{ratio, coarsest_of, per, some_rows, one_schema, long, coarsest-is, interval-ticks, ratios}
 use Rattle.demand_proved.specs.Begin.{begins}
-use Rattle.demand_proved.specs.Setting.{Supplied, tick_value, first_tick, tick_once, tick_offset, setting, setting-fits}
+use Rattle.demand_proved.proofs.Setting.{Supplied, tick_value, first_tick, tick_once, tick_offset, setting, setting-fits}
 use Rattle.demand_proved.specs.Due.{due-is, each-is}
 
 -- what creation is lent
