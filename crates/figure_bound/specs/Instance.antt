@@ -1,17 +1,13 @@
 -- The bound is not empty: the list of calls of demand/specs/Instance.antt with one tick more, which closes the last window of every tier. What the panel then shows is
--- computed, and that it is within the bound at the coarsest tier follows from the theorem. Assumes nothing.
-use Rattle.std.specs.Prelude.{ℕ, ◌<◌, ◌≡◌, refl, Bool, true, List, [], ◌∷◌, ◌++◌, T, ℤ, pos, negsuc}
-use Rattle.std.proofs.Common.{sym, ap, subst, lit<}
-use Rattle.model.specs.Image.{row_at, row_slots}
+-- computed; proofs/Instance.antt has it within the bound at the coarsest tier, from the theorem. Assumes nothing.
+use Rattle.std.specs.Prelude.{ℕ, ◌≡◌, refl, Bool, true, List, [], ◌∷◌, ◌++◌, T, ℤ, pos, negsuc}
 use Rattle.model.specs.Lent.{Lent}
 use Rattle.model.specs.Store.{Call, after}
 use Rattle.model.specs.Figure.{PanelReply, shows, panel}
-use Rattle.model.specs.Cases.{num, plan}
-use Rattle.demand.specs.Demand.{Situation, Event, Sample, samples_in, supposed, used, newest_windows, is_closed, in_window, sum_of, count, finest, coarsest, history, samples, tier_interval, events, after_run, created, up_to_run, due}
-use Rattle.demand.specs.Instance.{Instance-defs, minus, both, calls, story, sample, did, accepted_plan, suited-plan}
-use Rattle.demand.specs.PanelBound.{Bound-defs, last_start, last_due, shown_within, panel_after, PanelWithin}
-use Rattle.demand_proved.proofs.Instance.{one_schema, three-rows}
-use Rattle.figure_bound.specs.Theorem.{proof}
+use Rattle.model.specs.Cases.{num}
+use Rattle.demand.specs.Demand.{Situation, Event, Sample, samples_in, supposed, used, newest_windows, is_closed, in_window, sum_of, count, history, events, after_run}
+use Rattle.demand.specs.Instance.{Instance-defs, minus, both, calls, story, sample, did}
+use Rattle.demand.specs.PanelBound.{Bound-defs, last_start}
 
 -- the tick 150 comes before the run: 0 for column 1, -14 for column 0
 unfoldable pub closing : ℕ → ℕ → Situation
@@ -73,27 +69,3 @@ pub shown_are :
     ≡ ([], shows (pos 0) ∷ shows (pos 2) ∷ shows (pos 4) ∷ shows (negsuc 13) ∷ shows (negsuc 1) ∷ shows (pos 0) ∷ [])
 unfolding Instance-defs closing shown_of afterwards
 shown_are = refl
-
--- of the coarsest tier's window of column 1 it follows from the theorem
-last-closed : T (is_closed (finest (closing 1 2)) (tier_interval (closing 1 2)) (samples_in closed) (last_start 0 (newest_windows (tier_interval (closing 1 2)) (row_slots (row_at (closing 1 2).plan 2)) (samples_in closed))))
-unfolding Instance-defs Bound-defs sample did closing before_last closed
-last-closed = tt
-
-supposition : T (supposed (finest (closing 1 2)) (coarsest (closing 1 2)) closed)
-unfolding Instance-defs closing
-supposition = met.0
-
-quiet : events (after_run (closing 1 2)) (closing 1 2).between ≡ []
-unfolding story closing after_run created up_to_run afterwards
-quiet = ap (λ r. r.0) shown_are
-
-pub promised_coarsest :
-    T (shown_within 2 (panel_after (closing 1 2)) (sum_of (in_window 1 (tier_interval (closing 1 2)) (last_due (closing 1 2))) (samples (closing 1 2)))
-    (count (in_window 1 (tier_interval (closing 1 2)) (last_due (closing 1 2))) (samples (closing 1 2))))
-unfolding PanelWithin story closing samples last_due due
-promised_coarsest =
-    proof (closing 1 2) accepted_plan one_schema suited-plan
-    (subst (λ (es : List Event). T (supposed (finest (closing 1 2)) (coarsest (closing 1 2)) es)) (sym (history-is 1 2)) supposition) quiet
-    (subst (λ (es : List Event). T (used 1 (samples_in es))) (sym (history-is 1 2)) met.2) (subst (λ (n : ℕ). 2 < n) (sym three-rows) (lit< tt))
-    (subst (λ (es : List Event). T (is_closed (finest (closing 1 2)) (tier_interval (closing 1 2)) (samples_in es)
-    (last_start 0 (newest_windows (tier_interval (closing 1 2)) (row_slots (row_at (closing 1 2).plan 2)) (samples_in es))))) (sym (history-is 1 2)) last-closed)

@@ -1,5 +1,4 @@
 pub mod Near
 pub mod Samples
 pub mod Last
-pub mod Theorem
 pub mod Instance

@@ -1,18 +1,10 @@
 -- From a value's distance to that of the whole number shown for it: rounding adds at most half a nanosecond, and a value that near a mean of at most 2^30 in size
 -- is not beyond 2^53. Assumes nothing.
-use Rattle.std.specs.Prelude.{ℕ, suc, ◌+◌, ◌*◌, ◌^◌, ◌≤◌, ◌<◌, ◌≡◌, Bool, true, false, ℤ, negsuc, neg_ℤ, nat_abs, ◌-ℤ◌, ◌*ℤ◌, Float}
+use Rattle.std.specs.Prelude.{ℕ, suc, ◌+◌, ◌*◌, ◌^◌, ◌≤◌, ◌<◌, ◌≡◌, Bool, true, false, ℤ, negsuc, neg_ℤ, nat_abs, ◌-ℤ◌, ◌*ℤ◌}
 use Rattle.std.proofs.Common.{mul-le-mul_right, le_of_mul-le-mul_right, arith}
-use Rattle.std.proofs.lemmas.Bool.{false≢true}
 use Rattle.std.proofs.Math.IntN.{pos}
-use Rattle.std.specs.Float.Ieee.{nan, up, down}
-use Rattle.std.specs.Float.{inf, fin}
-use Rattle.std.specs.Float.Ieee.Fits.{down_pos}
 use Rattle.std.specs.Float.Ieee.Nearest.{closest}
 use Rattle.model.specs.Words.{signed}
-use Rattle.model.specs.Figure.{on_panel, nearest_whole, shown_value}
-use Rattle.demand.specs.Demand.{within}
-use Rattle.demand.specs.PanelBound.{shown_within}
-use Rattle.laws.specs.Tests.{yes_le, le_is}
 use Rattle.mean_theory.specs.Exact.{pos_part, neg_part}
 use Rattle.mean_theory.specs.Rounding.{closest_near}
 use Rattle.demand_proved.specs.Exact.{Is, is-add, is_neg, is_mul, is_signed, abs_le}
@@ -79,7 +71,7 @@ module _ (k n : ℕ) (z : ℤ) (N : 0 < n) (K : k ≤ 4096) (small : nat_abs z �
       is-add (signed s a *ℤ pos n) (neg_ℤ z) (pos_part s a * n) (neg_part s a * n) q p
       (is_mul (signed s a) (pos_part s a) (neg_part s a) n (is_signed s a)) (is_neg z p q (parts z).is)
 
-  shown : (s : Bool) (a b : ℕ) → 0 < b → nat_abs (signed s a *ℤ pos n -ℤ z *ℤ pos b) * 4096 ≤ k * (n * b)
+  pub shown : (s : Bool) (a b : ℕ) → 0 < b → nat_abs (signed s a *ℤ pos n -ℤ z *ℤ pos b) * 4096 ≤ k * (n * b)
       → (nat_abs (signed s (closest a b) *ℤ pos n -ℤ z) * 4096 ≤ (k + 2048) * n) × (a ≤ 2 ^ 53 * b)
   shown false a b B h =
       let w = le_abs (signed false a *ℤ pos n -ℤ z *ℤ pos b) (a * n + q * b) (0 * n + p * b) (k * (n * b)) (differ false a b) h in
@@ -95,14 +87,3 @@ module _ (k n : ℕ) (z : ℤ) (N : 0 < n) (K : k ≤ 4096) (small : nat_abs z �
         abs_le (signed true (closest a b) *ℤ pos n -ℤ z) (0 * n + q) (closest a b * n + p) ((k + 2048) * n) (differs true (closest a b)) (omega (arith, r.1)) (omega (arith, r.0)),
         not_far k a b q p n N K (omega (arith, (parts z).size)) g,
       )
-
-  -- a value within k / 4,096 of z / n is shown within k / 4,096 + 1 / 2 of it
-  pub shown_near : (x : Float) → within k x z n ≡ true → shown_within k (shown_value x) z n ≡ true
-  unfolding within shown_within shown_value on_panel nearest_whole
-  shown_near nan h = absurd (false≢true h)
-  shown_near (inf s) h = absurd (false≢true h)
-  shown_near (fin s m e) h =
-      let a = m * up e in
-      let b = down e in
-      let r = shown s a b (down_pos e) (le_is (nat_abs (signed s a *ℤ pos n -ℤ z *ℤ pos b) * 4096) (k * (n * b)) h) in
-      rw (yes_le a (2 ^ 53 * b) r.1, yes_le (nat_abs (signed s (closest a b) *ℤ pos n -ℤ z) * 4096) ((k + 2048) * n) r.0)

@@ -9,7 +9,7 @@ use Rattle.model.specs.Figure.{panel, panel_reply}
 use Rattle.demand.specs.Demand.{is_closed, in_window, sum_of, count, Situation, finest, created, up_to_run, after_run, samples, tier_interval}
 use Rattle.demand.specs.PanelBound.{last_due, shown_within, panel_after}
 use Rattle.demand_proved.specs.Stronger.{Supposition}
-use Rattle.figure_bound.specs.Theorem.{stronger}
+use Rattle.figure_bound.proofs.Theorem.{stronger}
 use Rattle.lookup.specs.Parts.{lent_of}
 use Rattle.tie_calls.specs.Encoded.{calls_in}
 use Rattle.tie.specs.Kept.{situation}

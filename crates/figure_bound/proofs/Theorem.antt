@@ -26,7 +26,7 @@ use Rattle.demand_proved.specs.Stronger.{Planned, Supposition, StrongerDemand}
 use Rattle.demand_proved.proofs.Story.{samples_are, not_zero}
 use Rattle.demand_proved.proofs.Tests.{clauses}
 use Rattle.demand_proved.proofs.Theorem as third
-use Rattle.figure_bound.specs.Near.{shown_near}
+use Rattle.figure_bound.proofs.Near.{shown_near}
 use Rattle.figure_bound.specs.Samples.{sum_size, count_window}
 use Rattle.figure_bound.specs.Last.{last_window, some_window, last_near}
 
