@@ -9,7 +9,8 @@ use Rattle.model.specs.Ring.{cell}
 use Rattle.model.specs.Lent.{Lent, ring, creation}
 use Rattle.demand.specs.Demand.{count}
 use Rattle.ring_theory.specs.Column.{Col, keeps_agree, col_start}
-use Rattle.ring_theory.specs.Hold.{Blank, blank_state}
+use Rattle.ring_theory.specs.Hold.{Blank}
+use Rattle.ring_theory.proofs.Hold.{blank_state}
 use Rattle.sample_theory.specs.Ticks.{regular_nil, reached_nil}
 use Rattle.sample_theory.specs.Schedule.{touched}
 use Rattle.fresh_theory.specs.Creation.{good-created, created_like, created_mark, created_flags, created-blank, created-cell}

@@ -13,7 +13,7 @@ use Rattle.model.specs.declared.Stepped.{Stepped}
 use Rattle.model.specs.declared.Next.{Next}
 use Rattle.model.specs.declared.Next.TheVariants.{Handed, Finished}
 use Rattle.model.specs.Read.{readable, step_from, step, stepped}
-use Rattle.ring_theory.specs.Points.{step_place}
+use Rattle.ring_theory.proofs.Points.{step_place}
 use Rattle.fetch.specs.Fetch.{Fetch, then_fetch, fetch_up_to, words}
 
 module _ (s : List ℕ) (c start end : ℕ) where

@@ -10,7 +10,8 @@ use Rattle.model.specs.declared.Point.{Point}
 use Rattle.model.specs.declared.Next.{Next}
 use Rattle.model.specs.declared.Next.TheVariants.{Handed, Finished}
 use Rattle.model.specs.Read.{Reader, readable, step, stepped, and_then, points_of}
-use Rattle.ring_theory.specs.Points.{points-step, points_unreadable}
+use Rattle.ring_theory.specs.Points.{points_unreadable}
+use Rattle.ring_theory.proofs.Points.{points-step}
 use Rattle.fetch.specs.Fetch.{Fetch, then_fetch, fetch_up_to}
 
 module _ (s : List ℕ) (c start end : ℕ) where

@@ -17,7 +17,8 @@ use Rattle.model.specs.Query.{reader_on}
 use Rattle.model.specs.Figure.{last_after, end_of_time}
 use Rattle.ring_theory.specs.Sound.{Sound, some_slots}
 use Rattle.ring_theory.specs.Numbers.{slots_of, slots-append, walk_is}
-use Rattle.ring_theory.specs.Points.{keep, points_in, points, points-append, first_in, reader_points}
+use Rattle.ring_theory.specs.Points.{keep, points_in, points, first_in}
+use Rattle.ring_theory.proofs.Points.{points-append, reader_points}
 
 -- the last point that a reading of a ring's column over all time hands out
 abbrev pub ring_last : Ring → ℕ → LastPoint

@@ -23,8 +23,10 @@ use Rattle.ring_theory.specs.Numbers.{upto, slots_of, div_is}
 use Rattle.ring_theory.specs.Walk.{held-append}
 use Rattle.ring_theory.specs.Sound.{some_slots}
 use Rattle.ring_theory.specs.Column.{Col}
-use Rattle.ring_theory.specs.Hold.{State, first_held, Reads, reads}
-use Rattle.ring_theory.specs.Read.{InRange, read_cut, early_out, late_out, held_in_lem}
+use Rattle.ring_theory.specs.Hold.{State, first_held, Reads}
+use Rattle.ring_theory.proofs.Hold.{reads}
+use Rattle.ring_theory.specs.Read.{InRange}
+use Rattle.ring_theory.proofs.Read.{read_cut, early_out, late_out, held_in_lem}
 use Rattle.pair_theory.specs.Windows.{job, home}
 
 -- ---- the answer of a list of values

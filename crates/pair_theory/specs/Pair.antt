@@ -17,8 +17,10 @@ use Rattle.model.specs.Consolidate.{Filled, Run, filled, stamps_below, or_zero, 
 use Rattle.laws.specs.Tests.{yes_lt}
 use Rattle.ring_theory.specs.Sound.{some_slots}
 use Rattle.ring_theory.specs.Column.{Col}
-use Rattle.ring_theory.specs.Hold.{Slab, State, first_held, reads}
-use Rattle.ring_theory.specs.Read.{InRange, range_from, held_in_lem}
+use Rattle.ring_theory.specs.Hold.{Slab, State, first_held}
+use Rattle.ring_theory.proofs.Hold.{reads}
+use Rattle.ring_theory.specs.Read.{InRange, range_from}
+use Rattle.ring_theory.proofs.Read.{held_in_lem}
 use Rattle.pair_theory.specs.Windows.{job, Spans, spans_any, windows_are}
 use Rattle.pair_theory.specs.Answers.{patterns_of, answer_for, answer_empty, answer_is}
 use Rattle.pair_theory.specs.Fill.{used_below, Full, Given, FilledBy, fill-windows}

@@ -11,7 +11,8 @@ use Rattle.model.specs.Record.{series_of, handle_ok}
 use Rattle.model.specs.Query.{Answered, found, query_check, auto_check, choose, answered, query_on, query, query_auto}
 use Rattle.laws.specs.Tests.{lt-is}
 use Rattle.laws.specs.Checks.{each_zero, unless_zero}
-use Rattle.ring_theory.specs.Points.{points, reader_points}
+use Rattle.ring_theory.specs.Points.{points}
+use Rattle.ring_theory.proofs.Points.{reader_points}
 use Rattle.image_theory.specs.Recorded.{handle_in}
 use Rattle.image_theory.specs.Good.{good_open, slab-sound}
 use Rattle.image_theory.specs.Tiers.{tier-row, some_tier}

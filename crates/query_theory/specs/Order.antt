@@ -7,7 +7,8 @@ use Rattle.model.specs.Ring.{Ring, cursor, stamp, walk, is_empty, first_place, o
 use Rattle.laws.specs.Tests.{no_eq}
 use Rattle.ring_theory.specs.Numbers.{upto, slots_of, slots-append, walk_is}
 use Rattle.ring_theory.specs.Sound.{Sound}
-use Rattle.ring_theory.specs.Points.{points_in, points, points-append}
+use Rattle.ring_theory.specs.Points.{points_in, points}
+use Rattle.ring_theory.proofs.Points.{points-append}
 
 -- the slots of numbers below n are these numbers
 slots-low : (n q k : ℕ) → q + k ≤ n → slots_of n q k ≡ upto q k

@@ -11,7 +11,7 @@ use Rattle.model.specs.Lent.{Lent, row, ring, tiers, row_no}
 use Rattle.model.specs.Record.{series_of, handle_ok}
 use Rattle.model.specs.Query.{query_check, auto_check, choose_from, choose, reader_on, answered, query_on, query, query_auto}
 use Rattle.model.specs.Store.{read, read_or, shown}
-use Rattle.ring_theory.specs.Points.{reader_points}
+use Rattle.ring_theory.proofs.Points.{reader_points}
 use Rattle.image_theory.specs.Recorded.{handle_in}
 use Rattle.image_theory.specs.Good.{Good}
 use Rattle.image_theory.specs.Pairs.{slab_of_lem}

@@ -1,13 +1,11 @@
 -- What n slots keep of numbers written one after the other, number q in slot q % n: the newest n numbers have their value, and a slot that no number
 -- went to is as it was at first. A ring's stamps are such slots, and so is each column of cells; a column that shares its numbers with others, or lags
 -- behind them, needs no case of its own. The newest number may be written again. Assumes nothing.
-use Rattle.std.specs.Prelude.{ℕ, suc, ◌+◌, ◌%◌, ◌≤◌, ◌<◌, ◌≡◌, refl, ◌≢◌, ◌&&◌, cond, eqb}
+use Rattle.std.specs.Prelude.{ℕ, suc, ◌+◌, ◌%◌, ◌≤◌, ◌<◌, ◌≡◌, ◌≢◌}
 use Rattle.std.proofs.Common.{mod-lt, arith, sym, ◌∙◌}
 use Rattle.std.proofs.Math.Decide.{ℕ_discrete}
 use Rattle.model.specs.Layout.{fresh_value}
-use Rattle.laws.specs.Tests.{yes_eq, no_eq}
 use Rattle.ring_theory.specs.Numbers.{mod_ne}
-use Rattle.ring_theory.specs.Write.{set_cell}
 
 -- C by slot: the e numbers from a on were written, number q last with X q; a slot without a number is v
 pub record Keeps (v : ℕ) (C : ℕ → ℕ) (n a e : ℕ) (X : ℕ → ℕ) : Type 0 where
@@ -55,15 +53,3 @@ col_same C D n a e X z h k = record {
 
 pub col_start : (C : ℕ → ℕ) (n a : ℕ) (X : ℕ → ℕ) → ((i : ℕ) → i < n → C i ≡ fresh_value) → Col C n a 0 X
 col_start C n a X h = keeps_start fresh_value C n a X h
-
--- column c takes its next number, or its newest one again
-pub col_put : (C : ℕ → ℕ → ℕ) (n c v a e k : ℕ) (X Y : ℕ → ℕ) → 0 < n → k ≤ e → e ≤ suc k → Y (a + k) ≡ v → ((q : ℕ) → a ≤ q → q < a + k → Y q ≡ X q)
-    → Col (C c) n a e X → Col (set_cell C ((a + k) % n) c v c) n a (suc k) Y
-unfolding set_cell
-col_put C n c v a e k X Y z from to hv below h =
-    keeps_put fresh_value (C c) (λ (i : ℕ). cond (eqb c c && eqb i ((a + k) % n)) v (C c i)) n a e k v X Y z from to
-    (rw (yes_eq c, yes_eq ((a + k) % n))) (λ i hi ne. rw (yes_eq c, no_eq i ((a + k) % n) ne)) hv below h
-
--- the next one, the values known beforehand
-pub col_next : (C : ℕ → ℕ → ℕ) (n c v a e : ℕ) (X : ℕ → ℕ) → 0 < n → X (a + e) ≡ v → Col (C c) n a e X → Col (set_cell C ((a + e) % n) c v c) n a (suc e) X
-col_next C n c v a e X z hv h = col_put C n c v a e e X X z (omega arith) (omega arith) hv (λ q l u. refl) h

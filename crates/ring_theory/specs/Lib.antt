@@ -6,5 +6,4 @@ pub mod Points
 pub mod Column
 pub mod Above
 pub mod Hold
-pub mod Step
 pub mod Read

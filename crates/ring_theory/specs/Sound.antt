@@ -6,7 +6,7 @@ use Rattle.model.specs.Bytes.{get}
 use Rattle.model.specs.Layout.{slab_length, column_at, column_behind, stamps_behind}
 use Rattle.model.specs.Ring.{Ring, ColumnValue, slots, series, interval, cursor, slot_of, write}
 use Rattle.laws.specs.Slab.{FullLength}
-use Rattle.ring_theory.specs.Write.{Fit, SlabKept, kept, Elsewhere, elsewhere, Wrote, wrote}
+use Rattle.ring_theory.specs.Write.{SlabKept, kept, Elsewhere, elsewhere}
 
 -- n slots, m series, interval d
 pub record Sound (s : List ℕ) (n m d : ℕ) : Type 0 where
@@ -70,8 +70,3 @@ module _ (r : Ring) (es : List ColumnValue) (t n m d : ℕ) (h : Sound r.slab n 
   pub elsewhere_sound : t < 2 ^ 64 → Elsewhere r.slab (t / d % n) t (write r es t).slab
   elsewhere_sound ht =
       subst (λ (i : ℕ). Elsewhere r.slab i t (write r es t).slab) (slot_is h t) (elsewhere r es t (as_long h) (rw h.slots-is (slot_in h t)) ht)
-
-  pub wrote_sound : t < 2 ^ 64 → Fit m es → Wrote r.slab (t / d % n) t es (write r es t).slab
-  wrote_sound ht f =
-      subst (λ (i : ℕ). Wrote r.slab i t es (write r es t).slab) (slot_is h t)
-      (wrote r es t (as_long h) (rw h.slots-is h.few_slots) (rw h.slots-is (slot_in h t)) ht (rw h.series-is f))

@@ -12,7 +12,8 @@ use Rattle.model.specs.Store.{Call, query_call, read_or, Deed, reads, records, r
 use Rattle.demand.specs.Demand.{Event, took, ran, if_accepted, events_by, events_of, events, handed_out}
 use Rattle.laws.specs.Tests.{yes_lt}
 use Rattle.ring_theory.specs.Hold.{first_held}
-use Rattle.ring_theory.specs.Read.{pts, all-points}
+use Rattle.ring_theory.specs.Read.{pts}
+use Rattle.ring_theory.proofs.Read.{all-points}
 use Rattle.image_theory.specs.Recorded.{batch_none}
 use Rattle.image_theory.specs.Good.{open_good}
 use Rattle.image_theory.specs.Tiers.{length-one}

@@ -13,7 +13,8 @@ use Rattle.model.specs.Ring.{Ring, is_nan_bits, wrap_flag}
 use Rattle.model.specs.Lent.{Lent, row, ring, with_ring, opening}
 use Rattle.model.specs.Consolidate.{with_mark}
 use Rattle.ring_theory.specs.Sound.{Sound}
-use Rattle.ring_theory.specs.Hold.{State, state_opened}
+use Rattle.ring_theory.specs.Hold.{State}
+use Rattle.ring_theory.proofs.Hold.{state_opened}
 use Rattle.pair_theory.specs.Answers.{patterns_of, answer_for}
 use Rattle.pair_theory.specs.Fill.{Full, Given}
 use Rattle.image_theory.specs.Checks.{Alike, Like, sound_keeps}

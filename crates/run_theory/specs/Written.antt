@@ -14,11 +14,13 @@ use Rattle.model.specs.Ring.{Ring, ColumnValue, cell, write}
 use Rattle.model.specs.Lent.{Lent, ring, with_ring}
 use Rattle.demand.specs.Demand.{Sample, Event, took, last_of, count, is_offset, whole_within, scheduled}
 use Rattle.laws.specs.Tests.{no_eq, lt-is, and_left}
-use Rattle.ring_theory.specs.Write.{Fit, Wrote, set_cell, set_cells, set_other}
+use Rattle.ring_theory.specs.Write.{Fit, Wrote, set_cell, set_cells}
+use Rattle.ring_theory.proofs.Write.{set_other}
 use Rattle.ring_theory.specs.Sound.{some_slots}
-use Rattle.ring_theory.specs.Column.{Col, col_same, col_next}
+use Rattle.ring_theory.specs.Column.{Col, col_same}
+use Rattle.ring_theory.proofs.Column.{col_next}
 use Rattle.ring_theory.specs.Hold.{State}
-use Rattle.ring_theory.specs.Step.{at-number, step-at}
+use Rattle.ring_theory.proofs.Step.{at-number, step-at}
 use Rattle.sample_theory.specs.Lists.{of_column, count-append, at_yes, last-append, value_here}
 use Rattle.sample_theory.specs.Ticks.{Steady, Regular, next_tick, count-own, count_else, regular_next}
 use Rattle.sample_theory.specs.Batch.{AllAt, Ticked, ticked}

@@ -10,9 +10,11 @@ use Rattle.model.specs.Ring.{Ring, ColumnValue, cursor, stamp, is_old, write}
 use Rattle.laws.specs.Tests.{no_lt}
 use Rattle.ring_theory.specs.Numbers.{mod_ne}
 use Rattle.ring_theory.specs.Write.{Fit, Wrote, flag_is}
-use Rattle.ring_theory.specs.Sound.{some_slots, slot_is, sound-write, wrote_sound}
+use Rattle.ring_theory.specs.Sound.{some_slots, slot_is, sound-write}
+use Rattle.ring_theory.proofs.Sound.{wrote_sound}
 use Rattle.ring_theory.specs.Column.{Keeps, keeps_put}
-use Rattle.ring_theory.specs.Hold.{Slab, Flag, State, newest_slot, flag_step}
+use Rattle.ring_theory.specs.Hold.{Slab, Flag, State, newest_slot}
+use Rattle.ring_theory.proofs.Hold.{flag_step}
 
 module _ (r : Ring) (es : List ColumnValue) (q : ℕ) {n m d : ℕ} (h : Slab r.slab n m d) where
   slot_at : q * d / d % n ≡ q % n
