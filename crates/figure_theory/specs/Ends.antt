@@ -19,8 +19,9 @@ use Rattle.ring_theory.specs.Hold.{order_none}
 use Rattle.ring_theory.specs.Points.{points_in, points}
 use Rattle.image_theory.specs.Good.{good_open, slab-sound}
 use Rattle.image_theory.specs.Tiers.{tier-row}
-use Rattle.query_theory.specs.Ends.{BothOrNeither, both, neither, ends-agree}
-use Rattle.query_theory.specs.Answer.{query_zero, query_found, query-points}
+use Rattle.query_theory.specs.Ends.{BothOrNeither, both, neither}
+use Rattle.query_theory.proofs.Ends.{ends-agree}
+use Rattle.query_theory.proofs.Answer.{query_zero, query_found, query-points}
 
 -- an end that is missing is a stamp of 0
 no_stamp : (t : ℕ) → end_of t ≡ Missing → t ≡ 0

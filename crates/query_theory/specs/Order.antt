@@ -7,8 +7,6 @@ use Rattle.model.specs.Ring.{Ring, cursor, stamp, walk, is_empty, first_place, o
 use Rattle.laws.specs.Tests.{no_eq}
 use Rattle.ring_theory.specs.Numbers.{upto, slots_of, slots-append, walk_is}
 use Rattle.ring_theory.specs.Sound.{Sound}
-use Rattle.ring_theory.specs.Points.{points_in, points}
-use Rattle.ring_theory.proofs.Points.{points-append}
 
 -- the slots of numbers below n are these numbers
 slots-low : (n q k : ℕ) → q + k ≤ n → slots_of n q k ≡ upto q k
@@ -39,13 +37,6 @@ module _ (r : Ring) {n m d : ℕ} (h : Sound r.slab n m d) (some : stamp r.slab 
   pub order_wrapped : r.wrapped ≡ true → order r ≡ upto (suc (cursor r.slab)) (n - suc (cursor r.slab)) ++ upto 0 (suc (cursor r.slab))
   unfolding order first_place is_empty
   order_wrapped w = rw (no_eq (stamp r.slab (cursor r.slab)) 0 some, w, h.slots-is) (walk_round n (suc (cursor r.slab)) h.cursor_in (omega (arith, h.cursor_in)))
-
-  -- and so are its points
-  pub points_wrapped : r.wrapped ≡ true → (c start end : ℕ) → points r c start end
-      ≡ points_in r.slab c start end (upto (suc (cursor r.slab)) (n - suc (cursor r.slab))) ++ points_in r.slab c start end (upto 0 (suc (cursor r.slab)))
-  unfolding points
-  points_wrapped w c start end =
-      rw (order_wrapped w) (points-append r.slab c start end (upto (suc (cursor r.slab)) (n - suc (cursor r.slab))) (upto 0 (suc (cursor r.slab))))
 
 -- the last of k numbers
 pub upto-last : (q k : ℕ) → upto q (suc k) ≡ upto q k ++ ((q + k) ∷ [])

@@ -12,7 +12,8 @@ use Rattle.ring_theory.specs.Sound.{Sound}
 use Rattle.ring_theory.specs.Points.{keep, points_in, points}
 use Rattle.ring_theory.specs.Hold.{order_none}
 use Rattle.ring_theory.proofs.Read.{out_fresh}
-use Rattle.query_theory.specs.Order.{order_plain, order_wrapped, points_wrapped}
+use Rattle.query_theory.specs.Order.{order_plain, order_wrapped}
+use Rattle.query_theory.proofs.Order.{points_wrapped}
 use Rattle.reopening_proved.specs.Tidy.{Tidy}
 
 -- of m columns

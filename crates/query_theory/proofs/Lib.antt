@@ -1,0 +1,3 @@
+pub mod Answer
+pub mod Ends
+pub mod Order
