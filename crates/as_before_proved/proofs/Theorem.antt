@@ -16,7 +16,7 @@ use Rattle.as_before.specs.Before as Before
 use Rattle.as_before.specs.AsBefore.{stamp_by, stamps_of, never_fall, in_order_from, in_order, goes_on, no_run_refused, AsBefore, passed_on, passed_over, NonePassedOver}
 use Rattle.laws.specs.Tests.{and_left, and_right}
 use Rattle.image_theory.specs.Good.{Good, SameRows, count_kept}
-use Rattle.image_theory.specs.Calls.{stays_call, refused_call, verdict_after}
+use Rattle.image_theory.proofs.Calls.{stays_call, refused_call, verdict_after}
 use Rattle.fresh_theory.specs.Creation.{low_open, good-created, created_like, created_flags, created-blank}
 use Rattle.as_before_proved.specs.Upto.{Upto}
 use Rattle.as_before_proved.specs.Capped.{Capped, rows_alike}

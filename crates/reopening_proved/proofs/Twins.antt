@@ -11,7 +11,8 @@ use Rattle.model.specs.Record.{Entry, handle_ok, write_to, takes, record_check, 
 use Rattle.model.specs.Query.{query_check, auto_check, query_on, query, query_auto}
 use Rattle.model.specs.Consolidate.{pairs, run_on, run}
 use Rattle.model.specs.Store.{Call, record_call, batch_call, query_call, auto_call, consolidate_call, open_call, read_or, Deed, reads, records, records_all, runs, opens, deed, doing, finished, call, after, shown}
-use Rattle.image_theory.specs.Calls.{opened_image, verdict_call}
+use Rattle.image_theory.specs.Calls.{opened_image}
+use Rattle.image_theory.proofs.Calls.{verdict_call}
 use Rattle.reopening_proved.specs.Tidy.{Tidy, tidy_write, tidy_opened}
 use Rattle.reopening_proved.specs.Each.{each-call}
 use Rattle.query_theory.specs.Answer.{query_zero, auto_zero}

@@ -36,7 +36,8 @@ use Rattle.image_theory.specs.Frame.{count-with, ring-same, ring-other, length-w
 use Rattle.image_theory.specs.Mark.{ring-with_mark}
 use Rattle.image_theory.specs.Stays.{kept_refl, stays_ring, stays_mark, stays_some, finest}
 use Rattle.image_theory.specs.Pairs.{slab_of_lem, newest_of, filled-long, filled-sound, stays_if}
-use Rattle.image_theory.specs.Calls.{opened_image, opened_flags, ring-opened, verdict_after}
+use Rattle.image_theory.specs.Calls.{opened_image, opened_flags, ring-opened}
+use Rattle.image_theory.proofs.Calls.{verdict_after}
 use Rattle.fresh_theory.specs.Creation.{low_open, good-created, created_like, created_flags, created-blank, created-cell}
 
 -- a window's write that is accepted has a stamp

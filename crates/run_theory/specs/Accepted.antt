@@ -8,7 +8,7 @@ use Rattle.model.specs.Record.{Entry, record_check, batch_check}
 use Rattle.model.specs.Store.{Call, Deed, reads, records, records_all, runs, opens, deed, call}
 use Rattle.demand.specs.Demand.{Sample, took, if_accepted, events_by, events_of, events, samples_in, first_of, last_of}
 use Rattle.image_theory.specs.Recorded.{record_zero, batch_zero}
-use Rattle.image_theory.specs.Calls.{verdict_call}
+use Rattle.image_theory.proofs.Calls.{verdict_call}
 use Rattle.sample_theory.specs.Lists.{samples-append}
 
 -- ---- the samples of a list of calls
