@@ -23,8 +23,8 @@ use Rattle.pair_theory.specs.Answers.{patterns_of, values_of, answer_for, finite
 use Rattle.pair_theory.specs.Fill.{Given, given_number}
 use Rattle.sample_theory.specs.Schedule.{touched}
 use Rattle.mean_theory.specs.Exact.{All, All2, Bounded, Within, Offset, Flat, whole_mean}
-use Rattle.mean_theory.specs.Average.{average_fits, average_bounded}
-use Rattle.mean_theory.specs.Tiers.{flat_within}
+use Rattle.mean_theory.proofs.Average.{average_fits, average_bounded}
+use Rattle.mean_theory.proofs.Tiers.{flat_within}
 
 -- ---- patterns
 

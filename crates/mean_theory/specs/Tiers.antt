@@ -1,16 +1,14 @@
--- A value of tier k is bounded and within k / 4,096 of the exact mean that it stands for (`tier-within`); where every window is full, that is the mean
--- of all the whole offsets below it (`flat_within`), as the third demand asks. Each tier adds 1 / 4,096, by `average_within`. Assumes nothing.
+-- Where every window is full, the exact mean that a value of tier k stands for is the mean of all the whole offsets below it (`flat_tier`). What it is worth
+-- as an approximation of that mean stands in proofs/Tiers. Assumes nothing.
 use Rattle.std.specs.Prelude.{◌≡◌, refl, Bool, true, false, ℕ, zero, suc, ◌+◌, ◌*◌, ◌/◌, ◌<◌, length, Float}
 use Rattle.std.proofs.Common.{ap, mul-le-mul_right, mul-pos, lt_irrefl, arith, lit<, length-append}
 use mathlib.Core.List.{List, [], ◌∷◌, flatten, map}
 use Rattle.std.proofs.lemmas.List.{length-map}
 use Rattle.std.specs.Float.Ieee.Positive.{num, den}
-use Rattle.mean_theory.specs.Exact.{All2, Frac, Same, exact_sum, exact_mean, sign, pos_part, neg_part, Near, Distance, per_tier, Within, Bounded, Offset, aboves, belows, whole_mean, Tier, Flat}
-use Rattle.mean_theory.specs.Nearness.{distance_same}
+use Rattle.mean_theory.specs.Exact.{All2, Frac, Same, exact_sum, exact_mean, sign, pos_part, neg_part, Near, per_tier, Within, Bounded, Offset, aboves, belows, whole_mean, Tier, Flat}
 use Rattle.mean_theory.specs.Wholes.{whole-num, append_sums}
-use Rattle.mean_theory.specs.Average.{average_within}
 
-each : {B : Type 0} (R S : Float → B → Type 0) → ((x : Float) (b : B) → R x b → S x b) → (xs : List Float) (bs : List B) → All2 R xs bs → All2 S xs bs
+pub each : {B : Type 0} (R S : Float → B → Type 0) → ((x : Float) (b : B) → R x b → S x b) → (xs : List Float) (bs : List B) → All2 R xs bs → All2 S xs bs
 each {B = B} R S f [] (b ∷ bs) h = elim h [ ]
 each {B = B} R S f (x ∷ xs) [] h = elim h [ ]
 each R S f [] [] h = tt
@@ -24,7 +22,7 @@ each_map S f (x ∷ xs) (b ∷ bs) h = (h.0, each_map S f xs bs h.1)
 
 -- ---- tier 0: a whole offset is its own mean
 
-offset_exact : (x : Float) → Offset x → Bounded x × Within x (whole_mean (x ∷ [])) 0
+pub offset_exact : (x : Float) → Offset x → Bounded x × Within x (whole_mean (x ∷ [])) 0
 unfolding aboves belows
 offset_exact x h =
     let e : num x ≡ num x / den x * den x = whole-num x h.0 in
@@ -37,23 +35,12 @@ offset_exact x h =
 
 -- ---- tier by tier
 
-same_sym : (q r : Frac) → Same q r → Same r q
+pub same_sym : (q r : Frac) → Same q r → Same r q
 same_sym q r s = (s.1, s.0, omega (arith, s.2))
 
-pub tier-within : (k : ℕ) (x : Float) (q : Frac) → Tier k x q → Bounded x × (0 < q.over) × Within x q k
-tier-within zero x q t =
-    let w = offset_exact x t.0 in
-    (w.0, t.1.0, distance_same x (whole_mean (x ∷ [])) q 0 per_tier (same_sym q (whole_mean (x ∷ [])) t.1) w.1)
-tier-within (suc k) x q t =
-    let m = exact_mean t.exacts in
-    let below = each (Tier k) (λ y r. Bounded y × Within y r k) (λ y r h. let g = tier-within k y r h in (g.0, g.2)) t.values t.exacts t.each in
-    let w : Bounded x × Distance x m (4096 * k + per_tier) (4096 * per_tier) =
-    rw t.average (average_within t.values t.exacts k per_tier t.counted below) in
-    let d = distance_same x m q (4096 * k + per_tier) (4096 * per_tier) (same_sym q m t.mean) w.1 in
-    (w.0, t.mean.0, (d.0, cancel (pos_part (sign x) (num x)) (neg_part (sign x) (num x)) (den x) d.1))
-  where
-    cancel : (h l c : ℕ) → Near h l c q (4096 * k + per_tier) (4096 * per_tier) → Near h l c q (suc k) per_tier
-    cancel h l c n = (omega (arith, n.0), omega (arith, n.1))
+tier_over : (k : ℕ) (x : Float) (q : Frac) → Tier k x q → 0 < q.over
+tier_over zero x q t = t.1.0
+tier_over (suc k) x q t = t.mean.0
 
 -- ---- full windows: of parts zss, d offsets each, the mean of the means is the mean of all the offsets
 
@@ -93,9 +80,9 @@ Part k d y ws = Tier k y (whole_mean ws) × (length ws ≡ d)
 part_pos : (k d : ℕ) (ys : List Float) (zss : List (List Float)) → 0 < length ys → All2 (Part k d) ys zss → 0 < d
 part_pos k d (y ∷ ys) [] c h = elim h [ ]
 part_pos k d [] zss c h = absurd (lt_irrefl 0 c)
-part_pos k d (y ∷ ys) (ws ∷ zss) c h = rw h.0.1 at (tier-within k y (whole_mean ws) h.0.0).1
+part_pos k d (y ∷ ys) (ws ∷ zss) c h = rw h.0.1 at (tier_over k y (whole_mean ws) h.0.0)
 
-flat_tier : (k : ℕ) (x : Float) (zs : List Float) → Flat k x zs → Tier k x (whole_mean zs)
+pub flat_tier : (k : ℕ) (x : Float) (zs : List Float) → Flat k x zs → Tier k x (whole_mean zs)
 flat_tier zero x zs t = rw t.1 (t.0, (lit< tt, lit< tt, omega arith))
 flat_tier (suc k) x zs t =
     let ys = t.values in
@@ -111,6 +98,3 @@ flat_tier (suc k) x zs t =
       average = t.average;
       mean = rw t.offsets (flatten_mean d ys zss D t.counted.0 (each (Part k d) (λ y ws. length ws ≡ d) (λ y ws g. g.1) ys zss h));
     }
-
-pub flat_within : (k : ℕ) (x : Float) (zs : List Float) → Flat k x zs → Bounded x × (0 < length zs) × Within x (whole_mean zs) k
-flat_within k x zs t = tier-within k x (whole_mean zs) (flat_tier k x zs t)

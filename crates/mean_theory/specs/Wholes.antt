@@ -1,8 +1,8 @@
 -- "Whole offsets add exactly, the mean rounds once" (document 01). The sum of whole numbers from -0.0, left to right, is exact as long as their sizes
--- add up to at most 2 ^ 53, as those of 4,096 whole offsets do; a sum of 0 is -0.0 exactly where every value is -0.0. So the sum is known bit for bit,
--- and the average of whole offsets is the exact quotient, rounded once. Assumes nothing.
-use Rattle.std.specs.Prelude.{◌≡◌, refl, ◌↔◌, Bool, not, ◌&&◌, cond, pos, negsuc, eqb, leb, length, Float}
-use Rattle.std.proofs.Common.{sym, ap, ◌∙◌, subst, le_trans, zero-add, add-zero, add_assoc, add_comm, mul-one, mul-le-mul_left, mul-div_cancel, arith, T_not, eqb→eq, leb→le, lit<, lit≤}
+-- add up to at most 2 ^ 53, as those of 4,096 whole offsets do; a sum of 0 has the sign that the values give it. So the sum is known bit for bit
+-- (proofs/Wholes), and the average of whole offsets is the exact quotient, rounded once. Assumes nothing.
+use Rattle.std.specs.Prelude.{◌≡◌, refl, Bool, not, ◌&&◌, cond, pos, negsuc, eqb, leb, length, Float}
+use Rattle.std.proofs.Common.{sym, ap, ◌∙◌, subst, le_trans, zero-add, add-zero, add_assoc, mul-one, mul-le-mul_left, mul-div_cancel, arith, T_not, eqb→eq, leb→le, lit<, lit≤}
 use Rattle.std.proofs.Math.Bool.{true, false, and-true, and-false, and_assoc}
 use mathlib.Core.List.{List, [], ◌∷◌, ◌++◌}
 use Prim.Native.Nat.{ℕ, zero, suc, ◌+◌, ◌-◌, ◌*◌, ◌/◌, ◌^◌, ◌≤◌, ◌<◌}
@@ -11,7 +11,6 @@ use Rattle.std.proofs.Math.Dec.{T, eqb-suc-zero, eqb_refl, nleb→lt}
 use Rattle.std.specs.Float.{nan, inf, fin}
 use Rattle.std.specs.Float.Ieee.{binary64, up, round, add, of_int, fits}
 use Rattle.std.specs.Float.Ieee.Fits.{add-fits, of_int-fits, and_l, and_r}
-use Rattle.std.specs.Float.Ieee.Bits.{is_true}
 use Rattle.std.specs.Float.Ieee.Back.{round_whole, whole_unique}
 use Rattle.std.specs.Float.Ieee.Exact.{HasValue}
 use Rattle.std.specs.Float.Ieee.Positive.{num, den, den_pos}
@@ -136,7 +135,7 @@ whole_same x y p n p' n' b f g v w e =
     let k = same_number v.sign w.sign b v.size w.size p n p' n' v.exact w.exact e v.zero_sign w.zero_sign in
     whole_unique binary64 x y v.sign v.size f g v.value (rw (k.0, k.1) w.value)
 
-float_whole : (p n : ℕ) (b : Bool) → p + n ≤ 2 ^ 53 → IsWhole (whole_float p n b) p n b × T (fits binary64 (whole_float p n b))
+pub float_whole : (p n : ℕ) (b : Bool) → p + n ≤ 2 ^ 53 → IsWhole (whole_float p n b) p n b × T (fits binary64 (whole_float p n b))
 unfolding whole_float of_int
 float_whole p n b l =
     go (eqb p n) (leb n p) (eqb→eq p n) (λ t e. T_not (eqb p n) t (subst (λ (z : ℕ). T (eqb p z)) e (eqb_refl p))) (leb→le n p) (nleb→lt n p)
@@ -159,15 +158,6 @@ float_whole p n b l =
         let z : a ≡ 0 → true ≡ b = λ h. absurd (omega arith) in
         (record { sign = true; size = a; value = v; exact = omega (arith, k tt); zero_sign = z }, of_int-fits binary64 (negsuc (n - suc p)))
 
-pub sum_float : (xs : List Float) → All WholeNumber xs → aboves xs + belows xs ≤ 2 ^ 53
-    → fold Sum (fold_start Sum) xs ≡ whole_float (aboves xs) (belows xs) (neg_zeros xs)
-sum_float xs h l =
-    let p = aboves xs in
-    let n = belows xs in
-    let b = neg_zeros xs in
-    let f = float_whole p n b l in
-    whole_same (fold Sum (fold_start Sum) xs) (whole_float p n b) p n p n b (sum_fits xs) f.1 (sum-exact xs h l) f.0 (add_comm p n)
-
 pub neg_zeros_none : (xs : List Float) → T (neg_zeros xs) → (aboves xs ≡ 0) × (belows xs ≡ 0)
 unfolding aboves belows neg_zeros
 neg_zeros_none [] h = (refl, refl)
@@ -176,19 +166,6 @@ neg_zeros_none (x ∷ xs) h =
     let z : num x ≡ 0 = eqb→eq (num x) 0 (and_r (sign x) (eqb (num x) 0) (and_l (neg_zero x) (neg_zeros xs) h)) in
     let q : num x / den x ≡ 0 = rw z (zero-div (den x)) in
     (omega (arith, r.0, parts (sign x) (num x / den x)), omega (arith, r.1, parts (sign x) (num x / den x)))
-
--- a sum is -0.0 exactly where every value is: for sums by line card, whose sign of zero has to be that of one sum
-pub sum_neg_zero : (xs : List Float) → All WholeNumber xs → aboves xs + belows xs ≤ 2 ^ 53 → (fold Sum (fold_start Sum) xs ≡ fin true 0 (pos 0)) ↔ T (neg_zeros xs)
-sum_neg_zero xs h l = (only, all)
-  where
-    only : fold Sum (fold_start Sum) xs ≡ fin true 0 (pos 0) → T (neg_zeros xs)
-    only e =
-        let w = sum-exact xs h l in
-        let v : HasValue (fin true 0 (pos 0)) w.sign w.size 1 = rw e at w.value in
-        subst T (v.0 ∙ w.zero_sign (omega (arith, v.1))) tt
-
-    all : T (neg_zeros xs) → fold Sum (fold_start Sum) xs ≡ fin true 0 (pos 0)
-    all t = let r = neg_zeros_none xs t in sum_float xs h l ∙ rw (r.0, r.1, is_true (neg_zeros xs) t) (unfold whole_float in refl)
 
 -- ---- whole offsets
 

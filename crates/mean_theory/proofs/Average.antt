@@ -18,7 +18,7 @@ use Rattle.mean_theory.specs.Operations.{value_says, div_once}
 use Rattle.mean_theory.specs.Rounding.{rounded, rounded_near, rounded-le, round_value}
 use Rattle.mean_theory.specs.Units.{one, one_pos, one-is, add_error, add_error-is, div_error, limit, units, pos_units, neg_units, pos_sum, neg_sum, units_are, own-units, bounded_of}
 use Rattle.mean_theory.specs.Nearness.{near_carry, near_add, near_mean}
-use Rattle.mean_theory.specs.Sums.{SumNear, sum_near}
+use Rattle.mean_theory.proofs.Sums.{SumNear, sum_near}
 
 pub average_fits : (xs : List Float) → T (fits binary64 (apply Average xs))
 unfolding apply fold_end

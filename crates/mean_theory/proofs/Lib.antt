@@ -1,0 +1,4 @@
+pub mod Average
+pub mod Sums
+pub mod Tiers
+pub mod Wholes
