@@ -28,10 +28,11 @@ use Rattle.mean_theory.specs.Exact.{aboves, belows}
 use Rattle.run_theory.specs.Setup.{Setup}
 use Rattle.run_theory.specs.Run.{Settled}
 use Rattle.run_theory.specs.Between.{Fits, column_in, Next}
-use Rattle.run_theory.specs.AtRun.{RanOn, ran-here}
+use Rattle.run_theory.specs.AtRun.{RanOn}
+use Rattle.run_theory.proofs.AtRun.{ran-here}
 use Rattle.run_theory.specs.Accepted.{Accepted, accepted_calls, last-low, some_opens, first_pos}
-use Rattle.run_theory.specs.Calls.{events-append, calls}
-use Rattle.run_theory.specs.Query.{settled_calls, answer_is}
+use Rattle.run_theory.proofs.Calls.{events-append, calls}
+use Rattle.run_theory.proofs.Query.{settled_calls, answer_is}
 use Rattle.demand_proved.specs.Values.{tier_long, tier_value, so_far, length-values, value_within, long_pos, so_closed}
 use Rattle.demand_proved.specs.Exact.{within-is}
 use Rattle.demand_proved.specs.Sums.{OnTicks, window_count, window_sum}

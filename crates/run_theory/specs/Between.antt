@@ -1,7 +1,7 @@
 -- The store between two calls, as the set-up has it: what it holds of the samples so far and of the last run, and that the events to come are on schedule.
--- It is what the induction over the calls keeps; an opening keeps it. Assumes nothing.
-use Rattle.std.specs.Prelude.{ℕ, suc, ◌*◌, ◌≤◌, ◌<◌, ◌≡◌, Bool, true, List}
-use Rattle.std.proofs.Common.{arith, ◌∙◌}
+-- It is what the induction over the calls keeps; an opening keeps it (proofs/Between). Assumes nothing.
+use Rattle.std.specs.Prelude.{ℕ, suc, ◌*◌, ◌≤◌, ◌<◌, ◌≡◌, true, List}
+use Rattle.std.proofs.Common.{arith}
 use Rattle.std.proofs.Math.Decide.{dec_lt}
 use Rattle.model.specs.Ring.{cell}
 use Rattle.model.specs.Lent.{Lent, row, ring}
@@ -11,7 +11,7 @@ use Rattle.ring_theory.specs.Hold.{State}
 use Rattle.sample_theory.specs.Lists.{of_column, value_at}
 use Rattle.sample_theory.specs.Ticks.{Steady, Regular, Reached}
 use Rattle.sample_theory.specs.Schedule.{touched, last_stamp}
-use Rattle.run_theory.specs.Setup.{Setup, tier_count, interval_of, slots_of, first_no, Tier, mark_of, Base, again, base_again, ring-again, mark_again, state_again, tier-again}
+use Rattle.run_theory.specs.Setup.{Setup, tier_count, interval_of, slots_of, first_no, Tier, mark_of, Base}
 
 -- the set-up is that of the samples xs
 pub record Fits (S : Setup) (xs : List Sample) : Type 0 where
@@ -45,21 +45,6 @@ column_in {S} {l} {ys} h c z = go (dec_lt c S.columns)
     go : Dec (c < S.columns) → c < S.columns
     go (yes p) = p
     go (no p) = absurd (omega (arith, h.known c (omega arith)))
-
--- so it is after an opening
-pub between_again : {S : Setup} {l : Lent} {ys : List Sample} {e f : ℕ} → Between S l ys e f → (fs : List Bool) → Between S (again l fs) ys e f
-between_again {S} {l} {ys} {e} {f} h fs = record {
-  base = base_again h.base fs;
-  state = state_again h.base fs 0 e S.some h.state;
-  cols = rw (ring-again h.base fs 0 S.some) h.cols;
-  tiers = λ j x y. tier-again h.base fs j f y (h.tiers j x y);
-  marks = λ j x. mark_again h.base fs j ∙ h.marks j x;
-  regular = h.regular;
-  reached = h.reached;
-  low = h.low;
-  high = h.high;
-  known = h.known;
-}
 
 -- such a store, where the events to come are on schedule
 pub record Next (S : Setup) (l : Lent) (ys : List Sample) (rest : List Event) : Type 0 where

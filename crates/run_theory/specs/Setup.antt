@@ -1,6 +1,7 @@
 -- What stays fixed through a list of calls: the plan, its tiers in whole windows of each other, the used columns and the values that every tier takes; and
 -- the store that belongs to it: in good order, its rows the plan's. Then a ring put back into its place, and a mark stored: the store still belongs to the set-up,
--- every other ring and mark stays. And an opening: the store belongs to it too, and every tier holds what it held. Assumes nothing.
+-- every other ring and mark stays. And an opening: the store belongs to it too, its marks are as they were and its rings
+-- but for the flags. Assumes nothing.
 use Rattle.std.specs.Prelude.{ℕ, zero, suc, ◌+◌, ◌-◌, ◌*◌, ◌/◌, ◌^◌, ◌≤◌, ◌<◌, min, ◌≡◌, ◌≢◌, Bool, true, false, length}
 use Rattle.std.proofs.Common.{mul_assoc, mul-le-mul_right, div-mul-le_self, arith, sym, ◌∙◌}
 use Rattle.std.proofs.Math.Path.{refl, ap}
@@ -236,11 +237,3 @@ module _ {S : Setup} {l : Lent} (b : Base S l) (fs : List Bool) where
   pub mark_again : (k : ℕ) → (row (again l fs) k).mark ≡ (row l k).mark
   unfolding row
   mark_again k = ap (λ (s : List ℕ). (row_at s k).mark) (opened_image m)
-
-  -- what a tier's ring took it took still
-  pub state_again : (k e : ℕ) → k < tier_count S → State (ring l k) (slots_of S k) S.columns (interval_of S k) (first_no S k) e
-      → State (ring (again l fs) k) (slots_of S k) S.columns (interval_of S k) (first_no S k) e
-  state_again k e h st = rw (ring-again k h) (state_opened st)
-
-  pub tier-again : (k e : ℕ) → k < tier_count S → Tier S l k e → Tier S (again l fs) k e
-  tier-again k e h t = record { state = state_again k (touched (S.long k) e) h t.state; cols = rw (ring-again k h) t.cols }

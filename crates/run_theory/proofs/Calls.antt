@@ -20,9 +20,10 @@ use Rattle.sample_theory.specs.Lists.{samples-append, samples_took}
 use Rattle.sample_theory.specs.Batch.{AllAt}
 use Rattle.sample_theory.specs.Schedule.{last_stamp}
 use Rattle.run_theory.specs.Setup.{Setup, interval_of, first_no, Base, row_in, series_fixed}
-use Rattle.run_theory.specs.Between.{Fits, Between, between_again, Next}
+use Rattle.run_theory.specs.Between.{Fits, Between, Next}
+use Rattle.run_theory.proofs.Between.{between_again}
 use Rattle.run_theory.specs.Written.{value_of, AllIn, written}
-use Rattle.run_theory.specs.AtRun.{ran-here}
+use Rattle.run_theory.proofs.AtRun.{ran-here}
 
 -- ---- the one schema
 

@@ -18,9 +18,10 @@ use Rattle.image_theory.specs.Recorded.{batch_none}
 use Rattle.image_theory.specs.Good.{open_good}
 use Rattle.image_theory.specs.Tiers.{length-one}
 use Rattle.sample_theory.specs.Schedule.{touched}
-use Rattle.run_theory.specs.Setup.{Setup, tier_count, interval_of, slots_of, first_no, Tier, newest-low, base_again, mark_again, tier-again}
+use Rattle.run_theory.specs.Setup.{Setup, tier_count, interval_of, slots_of, first_no, Tier, newest-low, base_again, mark_again}
+use Rattle.run_theory.proofs.Setup.{tier-again}
 use Rattle.run_theory.specs.Run.{Settled}
-use Rattle.run_theory.specs.Calls.{row_no-is, series_are}
+use Rattle.run_theory.proofs.Calls.{row_no-is, series_are}
 
 -- ---- calls without events
 
