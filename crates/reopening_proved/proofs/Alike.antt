@@ -17,10 +17,8 @@ use Rattle.image_theory.specs.Good.{Good}
 use Rattle.image_theory.specs.Pairs.{slab_of_lem}
 use Rattle.image_theory.specs.Tiers.{tier-row, some_tier}
 use Rattle.query_theory.specs.Choice.{choice_in}
-use Rattle.query_theory.specs.Answer.{query_zero, auto_zero}
-use Rattle.reopening_proved.proofs.Same.{Same}
 use Rattle.query_theory.proofs.Answer.{query_zero, auto_zero}
-use Rattle.reopening_proved.specs.Same.{Same}
+use Rattle.reopening_proved.proofs.Same.{Same}
 
 -- what goes by the image alone: the rows' numbers, the checks
 module _ (l l' : Lent) (img : l'.image ≡ l.image) where

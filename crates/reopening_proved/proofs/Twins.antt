@@ -15,12 +15,9 @@ use Rattle.image_theory.specs.Calls.{opened_image}
 use Rattle.image_theory.proofs.Calls.{verdict_call}
 use Rattle.reopening_proved.specs.Tidy.{Tidy, tidy_write, tidy_opened}
 use Rattle.reopening_proved.specs.Each.{each-call}
-use Rattle.query_theory.specs.Answer.{query_zero, auto_zero}
+use Rattle.query_theory.proofs.Answer.{query_zero, auto_zero}
 use Rattle.reopening_proved.proofs.Alike.{row_no_lem, query_check_lem, auto_check_lem, query-same, auto_same}
 use Rattle.reopening_proved.proofs.Level.{AllTidy, slab-same, rings-same, write-slab, put_image, Even, even_pairs}
-use Rattle.query_theory.proofs.Answer.{query_zero, auto_zero}
-use Rattle.reopening_proved.specs.Alike.{row_no_lem, query_check_lem, auto_check_lem, query-same, auto_same}
-use Rattle.reopening_proved.specs.Level.{AllTidy, slab-same, rings-same, write-slab, put_image, Even, even_pairs}
 
 -- ---- two stores, tidy where their image passes the checks
 

@@ -13,7 +13,7 @@ use Rattle.model.specs.Lent.{Lent, row, ring, with_ring}
 use Rattle.model.specs.Consolidate.{Filled, filled, or_zero, start_of, end_after, job_of, with_mark, pair}
 use Rattle.laws.specs.Tests.{yes_lt}
 use Rattle.ring_theory.specs.Hold.{first_held}
-use Rattle.ring_theory.specs.Read.{newest-is, oldest-is}
+use Rattle.ring_theory.proofs.Read.{newest-is, oldest-is}
 use Rattle.pair_theory.specs.Windows.{job, home}
 use Rattle.pair_theory.specs.Answers.{patterns_of, answer_for}
 use Rattle.pair_theory.specs.Fill.{used_below, Full, Given}

@@ -2,7 +2,8 @@
 use Rattle.std.specs.Prelude.{ℕ, ◌<◌, Bool}
 use mathlib.Core.List.{List}
 use Rattle.model.specs.Lent.{Lent, ring}
-use Rattle.ring_theory.specs.Hold.{State, state_opened}
+use Rattle.ring_theory.specs.Hold.{State}
+use Rattle.ring_theory.proofs.Hold.{state_opened}
 use Rattle.sample_theory.specs.Schedule.{touched}
 use Rattle.run_theory.specs.Setup.{Setup, tier_count, interval_of, slots_of, first_no, Tier, Base, again, ring-again}
 

@@ -12,8 +12,7 @@ use Rattle.model.specs.Consolidate.{end_after}
 use Rattle.laws.specs.Tests.{yes_lt, no_lt}
 use Rattle.strand_theory.specs.Cuts.{In, Before, Cut, Cuts, none, more, Homed, lap_of, Laps}
 use Rattle.laws.specs.Windows.{div_mono, window_mono, window_span, window_again, window_step, window_long}
-use Rattle.strand_theory.specs.Passes.{pass_of, pass_mono, pass-before, Between}
-use Rattle.strand_theory.specs.Passes.{between, before-left, before-right, origin, origin_in, in_ring, ahead, cursor-read}
+use Rattle.strand_theory.specs.Passes.{pass_of, pass_mono, pass-before, Between, between, before-left, before-right, origin, origin_in, in_ring, ahead, cursor-read}
 
 -- ---- how many of these are below c
 
