@@ -145,7 +145,3 @@ unfolding midway
 midway-row l a i hi =
     let s = stays_pairs (begin l) 0 i a.good (omega arith) in
     rw (count_kept (pairs (begin l) 0 i).lent.image l.image s.image_is) (omega arith)
-
-pub proof : RunsReadFew
-unfolding RunsReadFew
-proof h ok e i hi = let a = home_left h ok e in few_passes (midway (left h) i).lent (home_midway (left h) a i hi) i (midway-row (left h) a i hi)
