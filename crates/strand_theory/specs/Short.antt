@@ -7,17 +7,17 @@ use Rattle.std.proofs.Math.Path.{ap}
 use Rattle.model.specs.Ring.{slots, interval, cursor, stamp, slot_of, order, newest}
 use Rattle.model.specs.Window.{Job}
 use Rattle.model.specs.Consolidate.{end_after}
-use Rattle.strand_theory.specs.Cuts.{In, Cuts, Homed, lap_of}
+use Rattle.strand_theory.specs.Cuts.{In, Homed, lap_of}
 use Rattle.laws.specs.Windows.{div_mono}
 use Rattle.strand_theory.specs.Passes.{pass_of, pass_mono, near_pass, near_number, before-right, origin, origin_in, in_ring, read_at}
-use Rattle.strand_theory.specs.Few.{Charges, apart, few_charged, last-is, newest-pass}
+use Rattle.strand_theory.specs.Few.{Charges, apart, last-is, newest-pass}
 
 -- k passes, from b on
-rising : ℕ → ℕ → List ℕ
+pub rising : ℕ → ℕ → List ℕ
 rising b zero = []
 rising b (suc k) = b ∷ rising (suc b) k
 
-rising-length : (b k : ℕ) → length (rising b k) ≡ k
+pub rising-length : (b k : ℕ) → length (rising b k) ≡ k
 unfolding rising
 rising-length b zero = refl
 rising-length b (suc k) = ap suc (rising-length (suc b) k)
@@ -40,7 +40,7 @@ module _ (q : Job) (cur : cursor q.source.slab < slots q.source.slab) (home : Ho
   here = cursor q.source.slab
 
   -- all but the newest's
-  abbrev passes : List ℕ
+  abbrev pub passes : List ℕ
   passes = rising (suc (lap_of q.source.slab (at here)) - m) (m - 1)
 
   -- a stamp of the range below the newest has a pass less than m before the newest's
@@ -59,7 +59,7 @@ module _ (q : Job) (cur : cursor q.source.slab < slots q.source.slab) (home : Ho
       let near = near_number d n m (at j) (at here) (omega (arith, short, lo, end_is)) less other in
       near_pass n (origin q.source) here m (at j / d) (at here / d) v.0 o.0 o.1 (hj ∙ v.3) v.1 v.2 hc near
 
-  charged : Charges q passes cur home
+  pub charged : Charges q passes cur home
   charged i j b less pos lo hi =
       let s = q.source.slab in
       let n = slots s in
@@ -78,13 +78,3 @@ module _ (q : Job) (cur : cursor q.source.slab < slots q.source.slab) (home : Ho
         from = omega arith;
         under = omega (arith, between.from, between.under);
       }
-
-  short_cuts : (x : ℕ) → 0 < q.start + x → {k b : ℕ} → Cuts q k b → k ≤ x + 2 * (m - 1)
-  short_cuts x free cs = omega (arith, few_charged q passes cur home charged x free cs, rising-length (suc (lap_of q.source.slab (at here)) - m) (m - 1))
-
-  pub short_cuts_from : 0 < q.start → {k b : ℕ} → Cuts q k b → k ≤ 2 * (m - 1)
-  short_cuts_from pos cs = omega (arith, short_cuts 0 (omega arith) cs)
-
-  -- one more from 0 on, at a slot without a stamp
-  pub short_cuts_any : {k b : ℕ} → Cuts q k b → k ≤ suc (2 * (m - 1))
-  short_cuts_any cs = omega (arith, short_cuts 1 (omega arith) cs)

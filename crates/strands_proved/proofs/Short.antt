@@ -12,7 +12,7 @@ use Rattle.reopening.specs.Reopening.{left}
 use Rattle.strand_theory.specs.Cuts.{Cuts, none, more}
 use Rattle.laws.specs.Windows.{window_span}
 use Rattle.pair_theory.specs.Pair.{start_first, start_marked}
-use Rattle.strand_theory.specs.Short.{short_cuts_from, short_cuts_any}
+use Rattle.strand_theory.proofs.Short.{short_cuts_from, short_cuts_any}
 use Rattle.strands_proved.specs.Theorem.{midway, AllHome, home_left, home_midway, midway-row, cursor_in, long_cut, behind_zero}
 use Rattle.strands_proved.specs.Short.{span, Within, Short, RunsReadShort}
 
