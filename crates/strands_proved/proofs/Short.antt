@@ -5,7 +5,7 @@ use Rattle.std.proofs.Math.Path.{refl}
 use Rattle.model.specs.declared.ConsolidationFn.{ConsolidationFn}
 use Rattle.model.specs.declared.End.TheVariants.{At}
 use Rattle.model.specs.Image.{row_count}
-use Rattle.model.specs.Ring.{Ring, interval, newest, oldest}
+use Rattle.model.specs.Ring.{Ring, newest, oldest}
 use Rattle.model.specs.Lent.{Lent, row, ring}
 use Rattle.model.specs.Consolidate.{end_after, job_of}
 use Rattle.reopening.specs.Reopening.{left}
