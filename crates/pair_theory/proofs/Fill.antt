@@ -14,11 +14,13 @@ use Rattle.model.specs.Ring.{Ring, ColumnValue, cell, write}
 use Rattle.model.specs.Window.{Job, window_answer}
 use Rattle.model.specs.Consolidate.{Filled, write_check, write_unless, write_on, write_bits, write_answer, unless_refused, fill_window, fill}
 use Rattle.laws.specs.Tests.{yes_lt}
-use Rattle.ring_theory.specs.Write.{Wrote, set_cell, set_cells, set_other}
+use Rattle.ring_theory.specs.Write.{Wrote, set_cell, set_cells}
+use Rattle.ring_theory.proofs.Write.{set_other}
 use Rattle.ring_theory.specs.Sound.{some_slots}
-use Rattle.ring_theory.specs.Column.{Col, keeps_agree, col_same, col_put}
+use Rattle.ring_theory.specs.Column.{Col, keeps_agree, col_same}
+use Rattle.ring_theory.proofs.Column.{col_put}
 use Rattle.ring_theory.specs.Hold.{State}
-use Rattle.ring_theory.specs.Step.{at-number, step-at, taken_at}
+use Rattle.ring_theory.proofs.Step.{at-number, step-at, taken_at}
 use Rattle.pair_theory.specs.Windows.{wins}
 use Rattle.pair_theory.specs.Fill.{used_below, Full, Given, FilledBy}
 

@@ -12,8 +12,10 @@ use Rattle.model.specs.Window.{Job, window_answer}
 use Rattle.model.specs.Consolidate.{filled}
 use Rattle.ring_theory.specs.Sound.{some_slots}
 use Rattle.ring_theory.specs.Column.{Col}
-use Rattle.ring_theory.specs.Hold.{State, first_held, reads}
-use Rattle.ring_theory.specs.Read.{InRange, range_from, held_in_lem}
+use Rattle.ring_theory.specs.Hold.{State, first_held}
+use Rattle.ring_theory.proofs.Hold.{reads}
+use Rattle.ring_theory.specs.Read.{InRange, range_from}
+use Rattle.ring_theory.proofs.Read.{held_in_lem}
 use Rattle.pair_theory.specs.Windows.{job, Spans, spans_any}
 use Rattle.pair_theory.proofs.Windows.{windows_are}
 use Rattle.pair_theory.specs.Answers.{patterns_of, answer_for, answer_empty, answer_is}

@@ -15,8 +15,10 @@ use Rattle.model.specs.Window.{Job, window_of}
 use Rattle.model.specs.Consolidate.{lower, lower_if, is_next, least_from, next_window, windows_from, windows}
 use Rattle.laws.specs.Tests.{yes_le, yes_lt, no_le, no_lt}
 use Rattle.ring_theory.specs.Numbers.{slots_of, div_is, mul-lt}
-use Rattle.ring_theory.specs.Hold.{State, first_held, Reads, reads}
-use Rattle.ring_theory.specs.Read.{InRange, read_cut, early_out, late_out, held_in_lem}
+use Rattle.ring_theory.specs.Hold.{State, first_held, Reads}
+use Rattle.ring_theory.proofs.Hold.{reads}
+use Rattle.ring_theory.specs.Read.{InRange}
+use Rattle.ring_theory.proofs.Read.{read_cut, early_out, late_out, held_in_lem}
 use Rattle.pair_theory.specs.Windows.{job, wins, Spans, spans_few, home}
 
 module _ {A : Ring} (fn : ConsolidationFn) {n m d a e r lo hi g h x j : ℕ} (st : State A n m d a e) (pa : 0 < a) (zr : 0 < r) (zl : 0 < lo)

@@ -18,9 +18,9 @@ use Rattle.ring_theory.specs.Hold.{Slab, State, first_held}
 use Rattle.ring_theory.proofs.Hold.{reads}
 use Rattle.ring_theory.specs.Read.{InRange, range_from}
 use Rattle.ring_theory.proofs.Read.{held_in_lem}
-use Rattle.pair_theory.specs.Windows.{job, Spans, spans_any, windows_are}
+use Rattle.pair_theory.specs.Windows.{job, Spans, spans_any}
 use Rattle.pair_theory.specs.Answers.{patterns_of, answer_for, answer_empty, answer_is}
-use Rattle.pair_theory.specs.Fill.{used_below, Full, Given, FilledBy, fill-windows}
+use Rattle.pair_theory.specs.Fill.{used_below, Full, Given, FilledBy}
 
 -- f is what the pair makes of the destination B: e numbers from a on with the values Y, after j windows
 abbrev pub Paired : Filled → Ring → (ℕ → Bool) → (ℕ → ℕ → ℕ) → ℕ → ℕ → ℕ → ℕ → ℕ → ℕ → Type 0

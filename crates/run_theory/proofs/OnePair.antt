@@ -17,7 +17,8 @@ use Rattle.ring_theory.proofs.Read.{newest-is, oldest-is}
 use Rattle.pair_theory.specs.Windows.{job, home}
 use Rattle.pair_theory.specs.Answers.{patterns_of, answer_for}
 use Rattle.pair_theory.specs.Fill.{used_below, Full, Given}
-use Rattle.pair_theory.specs.Pair.{Paired, paired, pair_is, start_first, start_marked, closed}
+use Rattle.pair_theory.specs.Pair.{Paired, pair_is, start_first, start_marked, closed}
+use Rattle.pair_theory.proofs.Pair.{paired}
 use Rattle.sample_theory.specs.Schedule.{touched}
 use Rattle.run_theory.specs.Setup.{Setup, tier_count, interval_of, slots_of, first_no, Holds, Tier, newest-low, mark_of, Base, interval_fixed, series_fixed, function_fixed, Put, put-ring, put_mark}
 use Rattle.run_theory.specs.OnePair.{Stepped, reach}
