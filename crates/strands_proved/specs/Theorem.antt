@@ -18,7 +18,7 @@ use Rattle.reopening_proved.specs.Each.{Each, all-pairs, each_left}
 use Rattle.strand_theory.specs.Cuts.{In, Cut, Cuts, none, more, Passes, Laps}
 use Rattle.laws.specs.Windows.{window_mono, window_self, window_le, window_long}
 use Rattle.strand_theory.specs.Passes.{before-left}
-use Rattle.strand_theory.specs.Few.{fewer_cuts_from, fewer_cuts}
+use Rattle.strand_theory.proofs.Few.{fewer_cuts_from, fewer_cuts}
 use Rattle.strands_proved.specs.Home.{Home, home_blank, home_write, home_opened}
 
 -- ---- a run, pair by pair
