@@ -3,10 +3,7 @@ use Rattle.std.specs.Prelude.{ℕ, suc, ◌-◌, ◌*◌, ◌≤◌, ◌<◌, �
 use Rattle.model.specs.Ring.{slots, cursor, newest}
 use Rattle.model.specs.Window.{Job}
 use Rattle.model.specs.Consolidate.{end_after}
-use Rattle.laws.specs.Tests.{yes_lt, no_lt}
-use Rattle.strand_theory.specs.Cuts.{In, Before, Cut, Cuts, none, more, Homed, lap_of, Laps}
-use Rattle.laws.specs.Windows.{div_mono, window_mono, window_span, window_again, window_step, window_long}
-use Rattle.strand_theory.specs.Passes.{pass_of, pass_mono, pass-before, Between, between, before-left, before-right, origin, origin_in, in_ring, ahead, cursor-read}
+use Rattle.strand_theory.specs.Cuts.{Cuts, Homed, Laps}
 
 -- at most two cuts for each lap, where the range does not start at 0; one more where it does, at a slot without a stamp
 pub record FewCuts (q : Job) (ls : List ℕ) : Type 0 where

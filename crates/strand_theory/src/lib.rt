@@ -1,2 +1,2 @@
-// In how many parts a run reads a source whose stamps fall. It stands in specs/; there is no code here.
+// In how many parts a run reads a source whose stamps fall. It stands in specs/ and proofs/; there is no code here.
 #![tactic(auto)]
