@@ -14,7 +14,7 @@ use Rattle.strand_theory.specs.Cuts.{In, Before, Cut, Cuts, none, more, Homed, l
 use Rattle.laws.specs.Windows.{div_mono, window_mono, window_span, window_again, window_step, window_long}
 use Rattle.strand_theory.specs.Passes.{pass_of, pass_mono, pass-before, Between}
 use Rattle.strand_theory.specs.Passes.{between, before-left, before-right, origin, origin_in, in_ring, ahead, cursor-read}
-use Rattle.strand_theory.specs.Few.{FewRanges}
+use Rattle.strand_theory.specs.Few.{FewCuts, FewerCuts, FewRanges}
 
 -- ---- how many of these are below c
 
@@ -270,13 +270,18 @@ module _ (q : Job) (ls : List ℕ) (cur : cursor q.source.slab < slots q.source.
         go c (inl e) x y = subst (λ (z : ℕ). In z ls) (sym e) x
         go c (inr e) x y = subst (λ (z : ℕ). In z ls) (sym e) y
 
-    -- at most two cuts for each lap, where the range does not start at 0
-    pub few_cuts_from : 0 < q.start → {k b : ℕ} → Cuts q k b → k ≤ 2 * length ls
-    few_cuts_from pos cs = omega (arith, few_charged charged 0 (omega arith) cs)
+    -- at most two cuts for each lap, where the range does not start at 0; one more where it does, at a slot without a stamp
+    few_claim : FewCuts q ls
+    few_claim = record {
+      few_cuts_from = λ pos cs. omega (arith, few_charged charged 0 (omega arith) cs);
+      few_cuts = λ cs. omega (arith, few_charged charged 1 (omega arith) cs);
+    }
 
-    -- one more where it does, at a slot without a stamp
+    pub few_cuts_from : 0 < q.start → {k b : ℕ} → Cuts q k b → k ≤ 2 * length ls
+    few_cuts_from = few_claim.few_cuts_from
+
     pub few_cuts : {k b : ℕ} → Cuts q k b → k ≤ suc (2 * length ls)
-    few_cuts cs = omega (arith, few_charged charged 1 (omega arith) cs)
+    few_cuts = few_claim.few_cuts
 
     -- ---- where the range ends behind the newest stamp
 
@@ -293,17 +298,20 @@ module _ (q : Job) (ls : List ℕ) (cur : cursor q.source.slab < slots q.source.
           let capped : (t : ℕ) → t < q.end → pass t ≤ newest_lap = λ t l. rw (← p) (later-pass (omega (arith, l, end_is))) in
           omega (arith, few charged newest_lap capped x free (more cs c), below_less newest_lap ls (laps (cursor s) read lo (omega (arith, end_is))))
 
+      fewer_claim : FewerCuts q ls
+      fewer_claim = record {
+        fewer_cuts_from = λ pos cs. omega (arith, fewer 0 (omega arith) cs);
+        fewer_cuts = λ cs. omega (arith, fewer 1 (omega arith) cs);
+      }
+
       pub fewer_cuts_from : 0 < q.start → {k b : ℕ} → Cuts q k b → k ≤ 2 * (length ls - 1)
-      fewer_cuts_from pos cs = omega (arith, fewer 0 (omega arith) cs)
+      fewer_cuts_from = fewer_claim.fewer_cuts_from
 
       pub fewer_cuts : {k b : ℕ} → Cuts q k b → k ≤ suc (2 * (length ls - 1))
-      fewer_cuts cs = omega (arith, fewer 1 (omega arith) cs)
+      fewer_cuts = fewer_claim.fewer_cuts
 
 -- ---- the claim
 
 pub few_ranges : FewRanges
 unfolding FewRanges
-few_ranges q ls cur home laps = (
-  record { few_cuts_from = few_cuts_from q ls cur home laps; few_cuts = few_cuts q ls cur home laps },
-  λ ended. record { fewer_cuts_from = fewer_cuts_from q ls cur home laps ended; fewer_cuts = fewer_cuts q ls cur home laps ended },
-)
+few_ranges q ls cur home laps = (few_claim q ls cur home laps, λ ended. fewer_claim q ls cur home laps ended)

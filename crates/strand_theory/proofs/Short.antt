@@ -83,15 +83,22 @@ module _ (q : Job) (cur : cursor q.source.slab < slots q.source.slab) (home : Ho
   short_cuts : (x : ℕ) → 0 < q.start + x → {k b : ℕ} → Cuts q k b → k ≤ x + 2 * (m - 1)
   short_cuts x free cs = omega (arith, few_charged q passes cur home charged x free cs, rising-length (suc (lap_of q.source.slab (at here)) - m) (m - 1))
 
-  pub short_cuts_from : 0 < q.start → {k b : ℕ} → Cuts q k b → k ≤ 2 * (m - 1)
-  short_cuts_from pos cs = omega (arith, short_cuts 0 (omega arith) cs)
-
-  -- one more from 0 on, at a slot without a stamp
-  pub short_cuts_any : {k b : ℕ} → Cuts q k b → k ≤ suc (2 * (m - 1))
-  short_cuts_any cs = omega (arith, short_cuts 1 (omega arith) cs)
-
--- ---- the claim
+-- ---- the claim, and the laws that rest on it
 
 pub short_ranges : ShortRanges
 unfolding ShortRanges
-short_ranges q cur home ended m short = record { short_cuts_from = short_cuts_from q cur home ended m short; short_cuts_any = short_cuts_any q cur home ended m short }
+short_ranges q cur home ended m short = record {
+  short_cuts_from = λ pos cs. omega (arith, short_cuts q cur home ended m short 0 (omega arith) cs);
+  short_cuts_any = λ cs. omega (arith, short_cuts q cur home ended m short 1 (omega arith) cs);
+}
+
+module _ (q : Job) (cur : cursor q.source.slab < slots q.source.slab) (home : Homed q.source.slab) (ended : q.end ≡ end_after (newest q.source))
+    (m : ℕ) (short : q.end ≤ q.start + m * (interval q.source.slab * slots q.source.slab)) where
+  pub short_cuts_from : 0 < q.start → {k b : ℕ} → Cuts q k b → k ≤ 2 * (m - 1)
+  unfolding ShortRanges
+  short_cuts_from = (short_ranges q cur home ended m short).short_cuts_from
+
+  -- one more from 0 on, at a slot without a stamp
+  pub short_cuts_any : {k b : ℕ} → Cuts q k b → k ≤ suc (2 * (m - 1))
+  unfolding ShortRanges
+  short_cuts_any = (short_ranges q cur home ended m short).short_cuts_any
