@@ -1,11 +1,9 @@
 -- Request 2026-05: histories in time order, no consolidation refused, behave as before. The claim, for every such list of calls; and what it rests on for runs,
 -- which holds whatever the samples' order. The rules of then stand in Before, the proofs in the crate as_before_proved. Assumes nothing.
-use Rattle.std.specs.Prelude.{ℕ, zero, suc, ◌+◌, ◌-◌, ◌≡◌, Bool, true, false, not, ◌&&◌, cond, List, [], ◌∷◌, ◌++◌, T, leb, eqb}
+use Rattle.std.specs.Prelude.{ℕ, zero, suc, ◌+◌, ◌-◌, ◌≡◌, Bool, true, false, not, ◌&&◌, cond, List, [], ◌∷◌, ◌++◌, T, leb, eqb, Option, Some, None}
 use Rattle.std.specs.Float.{binary64}
 use Rattle.std.specs.Float.Ieee.{to_bits}
 use Rattle.model.specs.declared.ConsolidationFn.{ConsolidationFn}
-use Rattle.model.specs.declared.TierFn.{TierFn}
-use Rattle.model.specs.declared.TierFn.TheVariants.{None, Some}
 use Rattle.model.specs.declared.WindowAnswer.{WindowAnswer}
 use Rattle.model.specs.declared.WindowAnswer.TheVariants.{Empty, Number, NothingFinite}
 use Rattle.model.specs.Words.{function_no}
@@ -112,7 +110,7 @@ unfoldable pub passed_with : Bool → ConsolidationFn → Lent → ℕ → ℕ
 passed_with false f l i = 0
 passed_with true f l i = let q = job_of l i f in passed_fill q (record { ring = ring l (suc i); writes = 0; refusal = 0 }) (windows q) (row l i).series
 
-unfoldable pub passed_by : TierFn → Lent → ℕ → ℕ
+unfoldable pub passed_by : Option ConsolidationFn → Lent → ℕ → ℕ
 passed_by None l i = 0
 passed_by (Some f) l i = passed_with (stamps_below (ring l i).slab 0 (slots (ring l i).slab)) f l i
 

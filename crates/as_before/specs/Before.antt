@@ -1,12 +1,10 @@
 -- The rules before request 2026-05: record, record_batch and consolidation without OldSample, a call and a list of calls. What says another thing than its
 -- namesake in model: `record_check` and `batch_check` end before 18, and `write_on` passes over no write. All else is that text over these three; what does not
 -- hang on them is model's. Assumes nothing.
-use Rattle.std.specs.Prelude.{ℕ, zero, suc, ◌-◌, Bool, true, false, not, List, [], ◌∷◌, eqb}
+use Rattle.std.specs.Prelude.{ℕ, zero, suc, ◌-◌, Bool, true, false, not, List, [], ◌∷◌, eqb, Option, Some, None}
 use Rattle.std.specs.Float.{binary64}
 use Rattle.std.specs.Float.Ieee.{to_bits}
 use Rattle.model.specs.declared.ConsolidationFn.{ConsolidationFn}
-use Rattle.model.specs.declared.TierFn.{TierFn}
-use Rattle.model.specs.declared.TierFn.TheVariants.{None, Some}
 use Rattle.model.specs.declared.WindowAnswer.{WindowAnswer}
 use Rattle.model.specs.declared.WindowAnswer.TheVariants.{Empty, Number, NothingFinite}
 use Rattle.model.specs.Words.{function_no}
@@ -63,7 +61,7 @@ pair_with true f u i =
     let l = u.lent in
     close_pair u i (or_zero (newest (ring l i))) (filled (job_of l i f) (ring l (suc i)) (row l i).series)
 
-unfoldable pub pair_by : TierFn → Run → ℕ → Run
+unfoldable pub pair_by : Option ConsolidationFn → Run → ℕ → Run
 pair_by None u i = refuse_run u 16
 pair_by (Some f) u i = pair_with (stamps_below (ring u.lent i).slab 0 (slots (ring u.lent i).slab)) f u i
 

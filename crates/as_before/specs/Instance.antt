@@ -1,7 +1,6 @@
 -- The claim that histories in time order behave as before, on cases, by computation: a list that meets what it supposes; how order is judged; that both
 -- suppositions are needed; what a run passes over. Assumes nothing.
-use Rattle.std.specs.Prelude.{ℕ, ◌≡◌, refl, Bool, true, false, List, [], ◌∷◌, map, take, replicate, T}
-use Rattle.model.specs.declared.End.TheVariants.{At}
+use Rattle.std.specs.Prelude.{ℕ, ◌≡◌, refl, Bool, true, false, List, [], ◌∷◌, map, take, replicate, T, Some}
 use Rattle.model.specs.Bytes.{put}
 use Rattle.model.specs.Image.{rows, row_count, slab_of, create_check}
 use Rattle.model.specs.Ring.{stamp}
@@ -62,7 +61,7 @@ calls =
 unfoldable pub answers : List Shown
 answers =
     accepted ∷ accepted ∷ accepted ∷ accepted ∷ refusal 12 ∷ writes 1 ∷ accepted ∷ writes 2
-    ∷ points 1 (At 20) (At 40) 0 end64 true (at 20 2 ∷ at 40 4 ∷ []) ∷ points 0 (At 30) (At 30) 0 end64 true (at 30 7 ∷ []) ∷ []
+    ∷ points 1 (Some 20) (Some 40) 0 end64 true (at 20 2 ∷ at 40 4 ∷ []) ∷ points 0 (Some 30) (Some 30) 0 end64 true (at 30 7 ∷ []) ∷ []
 
 unfoldable pub Instance-defs : Unit {0}
 unfolding Cases-defs Reopening-defs Before-defs AsBefore-defs entry made supposed left_in mixed_plan mixed calls answers

@@ -2,12 +2,10 @@
 -- ahead after it. Assumes nothing.
 use Prim.Native.Nat.{ℕ, zero, suc, ◌+◌, ◌-◌, ◌≤◌, ◌<◌}
 use Rattle.std.proofs.Common.{arith, sym, ◌∙◌, subst}
-use Rattle.std.specs.Prelude.{◌≡◌, ◌&&◌, cond}
+use Rattle.std.specs.Prelude.{◌≡◌, ◌&&◌, cond, Option, Some, None}
 use Rattle.std.proofs.Math.Path.{refl, ap}
 use Rattle.std.proofs.Math.Bool.{Bool, true, false}
 use Rattle.std.proofs.Math.Dec.{ltb, eqb}
-use Rattle.model.specs.declared.TierFn.{TierFn}
-use Rattle.model.specs.declared.TierFn.TheVariants.{None, Some}
 use Rattle.model.specs.declared.ConsolidationFn.{ConsolidationFn}
 use Rattle.model.specs.Words.{function_no}
 use Rattle.model.specs.Image.{row_count, row_slots, open_check}
@@ -81,7 +79,7 @@ module _ (cap : ℕ → ℕ) where
               (bound-is (row l (suc i)).interval t (row l i).mark p.refusal p.writes (unfold close_pair in z)) s.held));
         }
 
-    by-same : (f : TierFn) → SameRun cap (pair_by f so_far i) (Before.pair_by f so_far i) (passed_by f l i)
+    by-same : (f : Option ConsolidationFn) → SameRun cap (pair_by f so_far i) (Before.pair_by f so_far i) (passed_by f l i)
     unfolding pair_by Before.pair_by passed_by
     by-same None = record { as_before = refl; none = refl; capped = λ z. absurd (unfold refuse_run in omega (arith, z)) }
     by-same (Some f) = with-same (stamps_below (ring l i).slab 0 (slots (ring l i).slab)) f refl

@@ -2,10 +2,8 @@
 -- one before it. Assumes nothing.
 use Prim.Native.Nat.{ℕ, zero, suc, ◌≤◌, ◌<◌}
 use Rattle.std.proofs.Common.{arith}
-use Rattle.std.specs.Prelude.{◌≡◌}
+use Rattle.std.specs.Prelude.{◌≡◌, Option, Some, None}
 use Rattle.std.proofs.Math.Path.{refl, subst}
-use Rattle.model.specs.declared.End.{End}
-use Rattle.model.specs.declared.End.TheVariants.{At, Missing}
 use Rattle.model.specs.declared.ConsolidationFn.{ConsolidationFn}
 use Rattle.model.specs.Ring.{Ring, slots, newest}
 use Rattle.model.specs.Window.{Job, window_of}
@@ -24,9 +22,9 @@ module _ (q : Job) (z : 0 < q.long) where
     within-from zero b = tt
     within-from (suc k) b = go (next_window q b) refl (λ w. within-from k (suc w))
       where
-        go : (e : End) → next_window q b ≡ e → ((w : ℕ) → Within (suc w) top (windows_from q k (next_window q (suc w)))) → Within b top (windows_from q (suc k) e)
-        go Missing f ih = tt
-        go (At w) f ih = let x = found q z b f in (x.0, end_is w x.1 x.2, ih w)
+        go : (e : Option ℕ) → next_window q b ≡ e → ((w : ℕ) → Within (suc w) top (windows_from q k (next_window q (suc w)))) → Within b top (windows_from q (suc k) e)
+        go None f ih = tt
+        go (Some w) f ih = let x = found q z b f in (x.0, end_is w x.1 x.2, ih w)
 
     within : (b : ℕ) → b ≤ window_of q.long q.start → Within b top (windows q)
     unfolding windows
@@ -39,10 +37,10 @@ unfolding start_of
 start_in zero long r z = window_mono long (omega arith)
 start_in (suc k) long r z = rw (window_again long z (suc k)) (omega arith)
 
-end_in : (e : End) (w : ℕ) → w < end_after e → w ≤ or_zero e
+end_in : (e : Option ℕ) (w : ℕ) → w < end_after e → w ≤ or_zero e
 unfolding end_after or_zero
-end_in Missing w h = absurd (omega arith)
-end_in (At t) w h = omega arith
+end_in None w h = absurd (omega arith)
+end_in (Some t) w h = omega arith
 
 module _ (l : Lent) (i : ℕ) (z : 0 < (row l (suc i)).interval) where
   pub pair-within : (f : ConsolidationFn)

@@ -1,13 +1,11 @@
 -- Where the windows of a pair lie; where the reading of a job starts. Assumes nothing.
 use Prim.Native.Nat.{ℕ, suc, ◌≤◌, ◌<◌}
 use Rattle.std.proofs.Common.{arith}
-use Rattle.std.specs.Prelude.{◌≡◌, Bool, ◌&&◌}
+use Rattle.std.specs.Prelude.{◌≡◌, Bool, ◌&&◌, Option, None}
 use Rattle.std.proofs.Math.Path.{refl}
 use Rattle.std.proofs.Math.Bool.{true, false}
 use mathlib.Core.List.{List, [], ◌∷◌}
 use Rattle.std.proofs.Math.Dec.{leb, ltb}
-use Rattle.model.specs.declared.End.{End}
-use Rattle.model.specs.declared.End.TheVariants.{Missing}
 use Rattle.model.specs.Ring.{stamp, order}
 use Rattle.model.specs.Window.{Job, window_of}
 use Rattle.model.specs.Consolidate.{lower_if, is_next, least_from, next_window}
@@ -33,7 +31,7 @@ module _ (q : Job) (z : 0 < q.long) where
           let le = le_is q.start t e in
           rw (yes_le 0 (window_of q.long t) (omega arith), yes_le b (window_of q.long t) (omega (arith, window_mono q.long le)))
 
-  least_from_lem : (b : ℕ) → b ≤ window_of q.long q.start → (is : List ℕ) (e : End) → least_from q 0 e is ≡ least_from q b e is
+  least_from_lem : (b : ℕ) → b ≤ window_of q.long q.start → (is : List ℕ) (e : Option ℕ) → least_from q 0 e is ≡ least_from q b e is
   unfolding least_from
   least_from_lem b h [] e = refl
   least_from_lem b h (i ∷ is) e =
@@ -42,4 +40,4 @@ module _ (q : Job) (z : 0 < q.long) where
 
   pub first-from : (b : ℕ) → b ≤ window_of q.long q.start → next_window q 0 ≡ next_window q b
   unfolding next_window
-  first-from b h = least_from_lem b h (order q.source) Missing
+  first-from b h = least_from_lem b h (order q.source) None

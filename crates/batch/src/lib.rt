@@ -17,8 +17,9 @@ fn store_schema(image: &mut [u8], flags: u32, schema: u64, batch: &[u8], stamp: 
     requires schema_bound { (schema < schemas image.old) × (every_entry (fits image.old) (entries batch.now) ≡ true) }
     ensures { lent_at image.new result ≡ write_to (lent_at image.old flags) schema (entries_of schema (entries batch.now)) stamp }
 {
-    let row = lookup::first_row(image, schema);
-    let slab = lookup::slab_at(image, row);
+    let opened = lookup::Image { bytes: image };
+    let row = opened.first_row(schema);
+    let slab = opened.slab_at(row);
     let from = slab.from;
     let to = slab.to;
     let z = slab.sizes;
@@ -35,74 +36,79 @@ fn store_schemas(image: &mut [u8], flags: u32, batch: &[u8], stamp: u64) -> u32
 {
     let count = field::get_u32(image, format::HEADER_SCHEMAS);
     let mut next = flags;
-    let mut k = 0;
-    while k < count {
+    for k in 0..count {
         let some = batch_entries::has_entry(batch, k);
         if some {
             next = store_schema(image, next, k, batch, stamp);
-            k += 1;
-            continue;
         }
-        k += 1;
     }
     next
 }
 
 // Why a batch is refused, once opening's check has passed: an empty one is not, else 11, 13, 12, 18.
-fn check_batch(image: &[u8], batch: &[u8], stamp: u64) -> model::Outcome
-    requires { open_check image.now ≡ 0 }
-    ensures { Checked image.now (entries batch.now) stamp (outcome_no result) }
+fn check_batch(image: &lookup::Image, batch: &[u8], stamp: u64) -> Result<(), model::Refusal>
+    ensures { Checked image.now.bytes.now (entries batch.now) stamp (outcome_no result) }
 {
     if batch.len() < format::ENTRY {
-        return model::Outcome::Accepted;
+        return Ok(());
     }
     let outside = batch_entries::any_outside(image, batch);
     if outside {
-        return model::Outcome::Refused(model::Refusal::InvalidHandle);
+        return Err(model::Refusal::InvalidHandle);
     }
     let good = field::is_good_stamp(stamp);
     let infinite = batch_entries::any_infinite(batch);
     let old = batch_entries::any_old(image, batch, stamp);
     if !good {
-        return model::Outcome::Refused(model::Refusal::InvalidTimestamp);
+        return Err(model::Refusal::InvalidTimestamp);
     }
     if infinite {
-        return model::Outcome::Refused(model::Refusal::InvalidValue);
+        return Err(model::Refusal::InvalidValue);
     }
     if old {
-        return model::Outcome::Refused(model::Refusal::OldSample);
+        return Err(model::Refusal::OldSample);
     }
-    model::Outcome::Accepted
+    Ok(())
 }
 
 // Records a batch, once opening's check has passed: its refusal, or the writes.
-pub fn batch_opened(image: &mut [u8], flags: u32, batch: &[u8], stamp: u64) -> flag_bits::Numbered
+pub fn batch_opened(
+    image: &mut [u8],
+    flags: u32,
+    batch: &[u8],
+    stamp: u64,
+) -> model::Called<Result<(), model::Refusal>, u32>
     requires { open_check image.old ≡ 0 }
-    ensures { BatchDone (lent_at image.old flags) (entries batch.now) stamp (outcome_no result.outcome) (lent_at image.new result.flags) }
+    ensures { BatchDone (lent_at image.old flags) (entries batch.now) stamp (outcome_no result.answer) (lent_at image.new result.flags) }
 {
-    let checked = check_batch(image, batch, stamp);
-    let model::Outcome::Accepted = checked else {
-        return flag_bits::Numbered {
-            outcome: checked,
-            flags: flags,
+    let checked = check_batch(&lookup::Image { bytes: image }, batch, stamp);
+    let Ok(()) = checked else {
+        return model::Called {
+            answer: checked,
+            flags,
         };
     };
     let next = store_schemas(image, flags, batch, stamp);
-    flag_bits::Numbered {
-        outcome: model::Outcome::Accepted,
+    model::Called {
+        answer: Ok(()),
         flags: next,
     }
 }
 
-// Records a batch, with the flags as a number.
-fn record_numbered(image: &mut [u8], flags: u32, batch: &[u8], stamp: u64) -> flag_bits::Numbered
-    ensures { BatchDone (lent_at image.old flags) (entries batch.now) stamp (outcome_no result.outcome) (lent_at image.new result.flags) }
+// Records a batch, with the flags as a number. Checks by number: a `lookup::Image` would lend the image that is written.
+fn record_numbered(
+    image: &mut [u8],
+    flags: u32,
+    batch: &[u8],
+    stamp: u64,
+) -> model::Called<Result<(), model::Refusal>, u32>
+    ensures { BatchDone (lent_at image.old flags) (entries batch.now) stamp (outcome_no result.answer) (lent_at image.new result.flags) }
 {
     let opened = image_checked::check_image(image);
-    let model::Outcome::Accepted = opened else {
-        return flag_bits::Numbered {
-            outcome: opened,
-            flags: flags,
+    let Ok(()) = opened else {
+        return model::Called {
+            answer: opened,
+            flags,
         };
     };
     batch_opened(image, flags, batch, stamp)
@@ -114,15 +120,14 @@ pub fn record_batch(
     flags: model::Flags,
     batch: &[u8],
     stamp: u64,
-) -> record::Recorded
-    ensures { BatchDone (lent_of image.old flags) (entries batch.now) stamp (outcome_no result.outcome) (lent_of image.new result.flags) }
+) -> model::Called<Result<(), model::Refusal>>
+    ensures { BatchDone (lent_of image.old flags) (entries batch.now) stamp (outcome_no result.answer) (lent_of image.new result.flags) }
 {
     let number = flag_bits::number_of(flags);
     let done = record_numbered(image, number, batch, stamp);
     let next = flag_bits::flags_of(done.flags);
-    let outcome = done.outcome;
-    record::Recorded {
-        outcome: outcome,
+    model::Called {
+        answer: done.answer,
         flags: next,
     }
 }

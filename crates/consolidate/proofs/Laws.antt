@@ -1,4 +1,5 @@
 -- One turn of the loop over the rows; a pair keeps the image in good order; the outcome of a call from its parts. Assumes nothing.
+use Rattle.std.specs.Prelude.{Result, Ok, Err}
 use Prim.Native.Nat.{ℕ, zero, suc, ◌+◌, ◌-◌, ◌≤◌, ◌<◌}
 use native.Mathlib.Omega.{arith}
 use native.Mathlib.Numerals.{add-one}
@@ -10,10 +11,6 @@ use lib.Dec.{eqb}
 use lib.ListN.{length}
 use Rattle.model.specs.declared.Flags.{Flags}
 use Rattle.model.specs.declared.Refusal.{Refusal}
-use Rattle.model.specs.declared.Outcome.{Outcome}
-use Rattle.model.specs.declared.Outcome.TheVariants.{Accepted, Refused}
-use Rattle.model.specs.declared.Consolidated.TheVariants.{Wrote}
-use Rattle.model.specs.declared.Consolidated.TheVariants as C
 use Rattle.model.specs.Words.{number_of, outcome_no}
 use Rattle.model.specs.Image.{row_count, row_place, row_at, open_check}
 use Rattle.model.specs.Lent.{row}
@@ -45,7 +42,7 @@ refused_rest u i (suc k) h =
 abbrev pub same_schema : Run → ℕ → Bool
 same_schema u i = eqb (row_at u.lent.image i).schema (row_at u.lent.image (suc i)).schema
 
-module _ (u : Run) (i n : ℕ) (h : i + 1 < n) {total : Run} (k : pairs u i (n - 1 - i) ≡ total) where
+module _ (u : Run) (i n : ℕ) (h : i < n - 1) {total : Run} (k : pairs u i (n - 1 - i) ≡ total) where
   left : n - 1 - i ≡ suc (n - 1 - (i + 1))
   left = omega arith
 
@@ -68,7 +65,7 @@ module _ (u : Run) (i n : ℕ) (h : i + 1 < n) {total : Run} (k : pairs u i (n -
   pub pair-last : {v : Run} → same_schema u i ≡ true → u.refusal ≡ 0 → v ≡ pair u i → v.refusal ≢ 0 → v ≡ total
   pair-last {v} e z m r = sym (refused_rest v (i + 1) (n - 1 - (i + 1)) r) ∙ pair_turn e z m
 
-pub rows_done : (u : Run) (i n : ℕ) {total : Run} → n ≤ i + 1 → pairs u i (n - 1 - i) ≡ total → u ≡ total
+pub rows_done : (u : Run) (i n : ℕ) {total : Run} → n - 1 ≤ i → pairs u i (n - 1 - i) ≡ total → u ≡ total
 unfolding pairs
 rows_done u i n h k = let e : n - 1 - i ≡ 0 = omega arith in rw e at k
 
@@ -125,11 +122,11 @@ module _ (s : List ℕ) (flags : Flags) where
 
 -- ---- the answer
 
-pub wrote_all : (k : ℕ) (o : Outcome) → o ≡ Accepted → consolidated_reply (Wrote k) ≡ wrote_or (outcome_no o) k
+pub wrote_all : (k : ℕ) (o : Result (Unit {0}) Refusal) → o ≡ Ok tt → consolidated_reply (Ok k) ≡ wrote_or (outcome_no o) k
 unfolding consolidated_reply wrote_or
 wrote_all k o e = rw e
 
-pub refused_run : (k : ℕ) (x : Refusal) {o : Outcome} → o ≡ Refused x → consolidated_reply (C.Refused x) ≡ wrote_or (outcome_no o) k
+pub refused_run : (k : ℕ) (x : Refusal) {o : Result (Unit {0}) Refusal} → o ≡ Err x → consolidated_reply (Err x) ≡ wrote_or (outcome_no o) k
 unfolding consolidated_reply wrote_or
 refused_run k x e = rw e (go (number_of x) (refusal_no x))
   where

@@ -11,21 +11,13 @@ ghost use Rattle.lookup.specs.Parts.{lent_of};
 ghost use Rattle.pair.specs.Parts.{run_of};
 ghost use Rattle.consolidate.specs.Parts.{fresh, run_done};
 
-// The answer, and the flags after the call.
-#[derive(Clone, Copy)]
-pub struct Consolidation {
-    pub answer: model::Consolidated,
-    pub flags: model::Flags,
-}
-
 // A row and the next are of one schema.
-fn same_schema(image: &[u8], row: usize) -> bool
-    requires image_value { open_check image.now ≡ 0 }
-    requires row_bound { suc row < row_count image.now }
-    ensures { result ≡ eqb (row_at image.now row).schema (row_at image.now (suc row)).schema }
+fn same_schema(image: &lookup::Image, row: usize) -> bool
+    requires { suc row < row_count image.now.bytes.now }
+    ensures { result ≡ eqb (row_at image.now.bytes.now row).schema (row_at image.now.bytes.now (suc row)).schema }
 {
-    let here = rows::row_at(image, row);
-    let next = rows::row_at(image, row + 1);
+    let here = rows::row_at(image.bytes, row);
+    let next = rows::row_at(image.bytes, row + 1);
     here.schema == next.schema
 }
 
@@ -36,55 +28,52 @@ fn run_pairs(image: &mut [u8], flags: model::Flags) -> pair::Progress
 {
     let n = field::get_u32(image, format::HEADER_ROWS) as usize;
     let mut u = pair::Progress {
-        flags: flags,
+        flags,
         count: 0,
-        outcome: model::Outcome::Accepted,
+        outcome: Ok(()),
     };
-    let mut i = 0;
-    while i + 1 < n {
-        let same = same_schema(image, i);
+    for i in 0..n - 1 {
+        let same = same_schema(&lookup::Image { bytes: image }, i);
         if !same {
-            i += 1;
             continue;
         }
         u = pair::pair(image, u, i);
         let outcome = u.outcome;
-        let model::Outcome::Accepted = outcome else {
+        let Ok(()) = outcome else {
             return u;
         };
-        i += 1;
     }
     u
 }
 
 // A run's answer: how many values were written, or the refusal alone.
-fn answer_of(outcome: model::Outcome, count: u64) -> model::Consolidated
+fn answer_of(outcome: Result<(), model::Refusal>, count: u64) -> Result<u64, model::Refusal>
     ensures { consolidated_reply result ≡ wrote_or (outcome_no outcome) count }
 {
     match outcome {
-        model::Outcome::Accepted => model::Consolidated::Wrote(count),
-        model::Outcome::Refused(x) => model::Consolidated::Refused(x),
+        Ok(()) => Ok(count),
+        Err(x) => Err(x),
     }
 }
 
-// Consolidates every pair.
-pub fn consolidate(image: &mut [u8], flags: model::Flags) -> Consolidation
+// Consolidates every pair. Checks by number: a `lookup::Image` would lend the image that is written.
+pub fn consolidate(
+    image: &mut [u8],
+    flags: model::Flags,
+) -> model::Called<Result<u64, model::Refusal>>
     ensures { run_done image.new result ≡ call (lent_of image.old flags) consolidate_call }
 {
     let opened = image_checked::check_image(image);
-    let model::Outcome::Accepted = opened else {
+    let Ok(()) = opened else {
         let answer = answer_of(opened, 0);
-        return Consolidation {
-            answer: answer,
-            flags: flags,
-        };
+        return model::Called { answer, flags };
     };
     let u = run_pairs(image, flags);
     let outcome = u.outcome;
     let answer = answer_of(outcome, u.count);
     let after = u.flags;
-    Consolidation {
-        answer: answer,
+    model::Called {
+        answer,
         flags: after,
     }
 }

@@ -8,51 +8,43 @@ ghost use Rattle.model.specs.Image.{create_check};
 ghost use Rattle.model.specs.Lent.{creation};
 ghost use Rattle.image.specs.Lent.{lent};
 
-// Creation's answer, and the flags as it leaves them.
-#[derive(Clone, Copy)]
-pub struct Created {
-    pub outcome: model::Outcome,
-    pub flags: model::Flags,
-}
-
 // The first n flags false.
-fn cleared(wrapped: [bool; 32], n: usize) -> model::Flags
+fn cleared(mut wrapped: [bool; 32], n: usize) -> model::Flags
     requires { n ≤ 32 }
     ensures { result.wrapped ≡ replicate n false ++ drop n wrapped }
 {
-    let mut next = wrapped;
-    let mut i = 0;
-    while i < n {
-        next[i] = false;
-        i += 1;
-    }
-    model::Flags { wrapped: next }
+    wrapped[..n].fill(false);
+    model::Flags { wrapped }
 }
 
 // A plan's image in a lent slice, with flags by value.
-pub fn create(plan: &[u8], image: &mut [u8], flags: model::Flags) -> Created
-    ensures { (outcome_no result.outcome ≡ create_check plan.now image.old) × (lent image.new result.flags ≡ creation plan.now (lent image.old flags)) }
+pub fn create(
+    plan: &[u8],
+    image: &mut [u8],
+    flags: model::Flags,
+) -> model::Called<Result<(), model::Refusal>>
+    ensures { (outcome_no result.answer ≡ create_check plan.now image.old) × (lent image.new result.flags ≡ creation plan.now (lent image.old flags)) }
 {
     let checked = image::check_plan(plan);
-    let model::Outcome::Accepted = checked else {
-        return Created {
-            outcome: checked,
-            flags: flags,
+    let Ok(()) = checked else {
+        return model::Called {
+            answer: checked,
+            flags,
         };
     };
     let len = image::length_of(plan);
     if (image.len() as u64) < len {
-        return Created {
-            outcome: model::Outcome::Refused(model::Refusal::ShortBuffer),
-            flags: flags,
+        return model::Called {
+            answer: Err(model::Refusal::ShortBuffer),
+            flags,
         };
     }
     let n = field::get_u32(plan, format::HEADER_ROWS) as usize;
     let wrapped = flags.wrapped;
     let next = cleared(wrapped, n);
     image_build::put_image(plan, image);
-    Created {
-        outcome: model::Outcome::Accepted,
+    model::Called {
+        answer: Ok(()),
         flags: next,
     }
 }

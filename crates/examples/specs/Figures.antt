@@ -1,15 +1,10 @@
 -- The panel's figure and the service figure (request 2026-04): rounding and its bound by values, the last point and both ends by stores, the refusals and their
 -- order, the code's answers, what agrees. By computation. Assumes nothing.
-use Rattle.std.specs.Prelude.{ℕ, ◌+◌, ◌-◌, ◌^◌, ◌≡◌, refl, Bool, true, false, List, [], ◌∷◌, map, take, replicate, pos, negsuc, neg_ℤ}
+use Rattle.std.specs.Prelude.{ℕ, ◌+◌, ◌-◌, ◌^◌, ◌≡◌, refl, Bool, true, false, List, [], ◌∷◌, map, take, replicate, pos, negsuc, neg_ℤ, Option, Some, None, Ok, Err}
 use Rattle.std.proofs.Common.{sym, ap}
 use Rattle.std.proofs.lemmas.Bool.{false≢true}
 use Rattle.std.specs.Float.Ieee.{eq}
-use Rattle.model.specs.declared.End.TheVariants.{At}
-use Rattle.model.specs.declared.LastPoint.{LastPoint}
-use Rattle.model.specs.declared.LastPoint.TheVariants.{Last, NoPoint}
 use Rattle.model.specs.declared.Refusal.TheVariants.{InvalidTier, OffPanel}
-use Rattle.model.specs.declared.Panel.TheVariants as P
-use Rattle.model.specs.declared.Service.TheVariants as S
 use Rattle.model.specs.Bytes.{put}
 use Rattle.model.specs.Layout.{fresh_value}
 use Rattle.model.specs.Lent.{Lent, creation}
@@ -18,6 +13,7 @@ use Rattle.model.specs.Store.{Call, after, record_call, consolidate_call}
 use Rattle.model.specs.Cases.{Cases-defs, tier_of, plan_of, plan, num, infinity, fresh, ring10, two, rec}
 use Rattle.demand.specs.Demand.{Demand-defs, Situation}
 use Rattle.demand.specs.PanelBound.{Bound-defs, last_start, last_due, panel_after, shown_within}
+use Rattle.model.specs.declared.Point.{Point}
 
 -- ---- stores
 
@@ -90,35 +86,35 @@ limit = refl
 pub infinite :
     let p = poked 208 infinity (at10 0) in
     let n = poked 208 0xfff0_0000_0000_0000 (at10 0) in
-    (panel p 0 0 0 ≡ not_shown 17) × (panel n 0 0 0 ≡ not_shown 17) × (service p 0 0 0 ≡ serves 10 infinity (At 10) (At 10))
-    × (service n 0 0 0 ≡ serves 10 0xfff0_0000_0000_0000 (At 10) (At 10))
+    (panel p 0 0 0 ≡ not_shown 17) × (panel n 0 0 0 ≡ not_shown 17) × (service p 0 0 0 ≡ serves 10 infinity (Some 10) (Some 10))
+    × (service n 0 0 0 ≡ serves 10 0xfff0_0000_0000_0000 (Some 10) (Some 10))
 unfolding Figures-defs
 infinite = (refl, refl, refl, refl)
 
 -- ---- the last point, and both ends
 
 -- the value in full: 1.5
-pub full_value : service (at10 0x3ff8_0000_0000_0000) 0 0 0 ≡ serves 10 0x3ff8_0000_0000_0000 (At 10) (At 10)
+pub full_value : service (at10 0x3ff8_0000_0000_0000) 0 0 0 ≡ serves 10 0x3ff8_0000_0000_0000 (Some 10) (Some 10)
 unfolding Figures-defs
 full_value = refl
 
 -- the last in ring order, not the greatest stamp: 15 takes slot 1 of a wrapped ring
 pub last_in_ring-order :
     let l = with4 (rec 10 1 ∷ rec 20 2 ∷ rec 30 3 ∷ rec 40 4 ∷ rec 15 5 ∷ []) in
-    (panel l 0 0 0 ≡ shows (pos 5)) × (service l 0 0 0 ≡ serves 15 (num 5) (At 20) (At 15))
+    (panel l 0 0 0 ≡ shows (pos 5)) × (service l 0 0 0 ≡ serves 15 (num 5) (Some 20) (Some 15))
 unfolding Figures-defs
 last_in_ring-order = (refl, refl)
 
 -- from slot 0 back to the ring's last slot, where the ring has wrapped; with the flag false that slot is not read
 pub back_round :
     let l = with4 (rec 20 2 ∷ rec 30 3 ∷ record_call 0 0 fresh_value 40 ∷ []) in
-    (panel l 0 0 0 ≡ shows (pos 3)) × (service l 0 0 0 ≡ serves 30 (num 3) (At 20) (At 40))
+    (panel l 0 0 0 ≡ shows (pos 3)) × (service l 0 0 0 ≡ serves 30 (num 3) (Some 20) (Some 40))
     × (panel (unwrapped l) 0 0 0 ≡ shows_nothing) × (service (unwrapped l) 0 0 0 ≡ serves_nothing)
 unfolding Figures-defs
 back_round = (refl, refl, refl, refl)
 
 -- the ends are the ring's, not those of the column's own points: column 1 has 10 and 30
-pub ends_of_the_ring : service (with4 (record_call 0 1 (num 1) 10 ∷ rec 20 2 ∷ record_call 0 1 (num 3) 30 ∷ [])) 0 0 0 ≡ serves 20 (num 2) (At 10) (At 30)
+pub ends_of_the_ring : service (with4 (record_call 0 1 (num 1) 10 ∷ rec 20 2 ∷ record_call 0 1 (num 3) 30 ∷ [])) 0 0 0 ≡ serves 20 (num 2) (Some 10) (Some 30)
 unfolding Figures-defs
 ends_of_the_ring = refl
 
@@ -132,21 +128,21 @@ pub all_time :
     let first = poked 200 (num 5) (at10 fresh_value) in
     let later = poked 176 (2 ^ 64 - 2) (at10 (num 1)) in
     let latest = poked 176 (2 ^ 64 - 1) (at10 (num 1)) in
-    (panel first 0 0 0 ≡ shows (pos 5)) × (service first 0 0 0 ≡ serves 0 (num 5) (At 10) (At 10))
-    × (panel later 0 0 0 ≡ shows (pos 1)) × (service later 0 0 0 ≡ serves (2 ^ 64 - 2) (num 1) (At (2 ^ 64 - 2)) (At (2 ^ 64 - 2)))
+    (panel first 0 0 0 ≡ shows (pos 5)) × (service first 0 0 0 ≡ serves 0 (num 5) (Some 10) (Some 10))
+    × (panel later 0 0 0 ≡ shows (pos 1)) × (service later 0 0 0 ≡ serves (2 ^ 64 - 2) (num 1) (Some (2 ^ 64 - 2)) (Some (2 ^ 64 - 2)))
     × (panel latest 0 0 0 ≡ shows_nothing) × (service latest 0 0 0 ≡ serves_nothing)
 unfolding Figures-defs
 all_time = (refl, refl, refl, refl, refl, refl)
 
 -- a value under another column's stamp is a point: column 1's 9 of stamp 40, once column 0 took the slot at 80
-pub borrowed_stamp : service (with4 (record_call 0 1 (num 9) 40 ∷ rec 80 4 ∷ [])) 0 1 0 ≡ serves 80 (num 9) (At 80) (At 80)
+pub borrowed_stamp : service (with4 (record_call 0 1 (num 9) 40 ∷ rec 80 4 ∷ [])) 0 1 0 ≡ serves 80 (num 9) (Some 80) (Some 80)
 unfolding Figures-defs
 borrowed_stamp = refl
 
 -- tier 1, where the mean of 1 and 2 is a tie, and tier 0; before the run tier 1 has nothing. The second of two schemas
 pub tiers-and-schemas :
     let l = after (fresh two) (rec 30 1 ∷ rec 40 2 ∷ consolidate_call ∷ []) in
-    (panel l 0 0 1 ≡ shows (pos 2)) × (service l 0 0 1 ≡ serves 30 0x3ff8_0000_0000_0000 (At 30) (At 30)) × (service l 0 0 0 ≡ serves 40 (num 2) (At 30) (At 40))
+    (panel l 0 0 1 ≡ shows (pos 2)) × (service l 0 0 1 ≡ serves 30 0x3ff8_0000_0000_0000 (Some 30) (Some 30)) × (service l 0 0 0 ≡ serves 40 (num 2) (Some 30) (Some 40))
     × (panel (after (fresh two) (rec 30 1 ∷ rec 40 2 ∷ [])) 0 0 1 ≡ shows_nothing) × (panel both 0 0 0 ≡ shows (pos 3)) × (panel both 1 0 0 ≡ shows (pos 4))
 unfolding Figures-defs
 tiers-and-schemas = (refl, refl, refl, refl, refl, refl)
@@ -163,20 +159,20 @@ refusals_in_order = (refl, refl, refl, refl, refl, refl, refl, refl, refl)
 
 -- the code's answers
 pub answers_are :
-    (panel_reply (P.Shows (neg_ℤ (pos 2))) ≡ shows (neg_ℤ (pos 2))) × (panel_reply P.Nothing ≡ shows_nothing) × (panel_reply (P.Refused OffPanel) ≡ not_shown 17)
-    × (service_reply (S.Gives (record { stamp = 40; value = 4; oldest = At 20; newest = At 15 })) ≡ serves 40 4 (At 20) (At 15))
-    × (service_reply S.Nothing ≡ serves_nothing) × (service_reply (S.Refused InvalidTier) ≡ not_served 14)
+    (panel_reply (Ok (Some (neg_ℤ (pos 2)))) ≡ shows (neg_ℤ (pos 2))) × (panel_reply (Ok None) ≡ shows_nothing) × (panel_reply (Err OffPanel) ≡ not_shown 17)
+    × (service_reply (Ok (Some (record { stamp = 40; value = 4; oldest = Some 20; newest = Some 15 }))) ≡ serves 40 4 (Some 20) (Some 15))
+    × (service_reply (Ok None) ≡ serves_nothing) × (service_reply (Err InvalidTier) ≡ not_served 14)
 unfolding Figures-defs
 answers_are = (refl, refl, refl, refl, refl, refl)
 
 -- ---- what agrees: numbers, whatever their stamps; 0.0 and -0.0; or neither. Not two numbers, nor a number and none, nor equal stamps alone
 
-unfoldable pub point : ℕ → ℕ → LastPoint
-point t v = Last (record { stamp = t; value = v })
+unfoldable pub point : ℕ → ℕ → Option Point
+point t v = Some (record { stamp = t; value = v })
 
 pub agreeing :
-    agree (point 10 (num 3)) (point 20 (num 3)) ∷ agree (point 10 0) (point 20 0x8000_0000_0000_0000) ∷ agree NoPoint NoPoint
-    ∷ agree (point 10 (num 3)) (point 10 (num 4)) ∷ agree (point 10 0) NoPoint ∷ agree NoPoint (point 10 0) ∷ []
+    agree (point 10 (num 3)) (point 20 (num 3)) ∷ agree (point 10 0) (point 20 0x8000_0000_0000_0000) ∷ agree None None
+    ∷ agree (point 10 (num 3)) (point 10 (num 4)) ∷ agree (point 10 0) None ∷ agree None (point 10 0) ∷ []
     ≡ true ∷ true ∷ true ∷ false ∷ false ∷ false ∷ []
 unfolding Figures-defs point eq
 agreeing = refl

@@ -1,11 +1,9 @@
 -- Bytes and layout, plans and images of several rows, to the byte; faults also in rows that are not the first. By computation. Assumes nothing.
-use Rattle.std.specs.Prelude.{ℕ, zero, suc, ◌-◌, ◌^◌, ◌≡◌, refl, true, false, List, [], ◌∷◌, ◌++◌, map, take, replicate}
+use Rattle.std.specs.Prelude.{ℕ, zero, suc, ◌-◌, ◌^◌, ◌≡◌, refl, true, false, List, [], ◌∷◌, ◌++◌, map, take, replicate, Some, None, Ok, Err}
 use Rattle.model.specs.declared.Row.{Row}
 use Rattle.model.specs.declared.Refusal.TheVariants.{BadImage, NoTiers, InvalidMaxSeries, InvalidTierConfig, TooManySlots, TiersNotOrdered, ConsolidationOnHighestTier, LayoutTooLarge}
 use Rattle.model.specs.declared.Refusal.TheVariants.{ShortBuffer, CorruptedSlab, InvalidHandle, InvalidValue, InvalidTimestamp, InvalidTier, InvalidTimeRange, NoConsolidationFunction, OffPanel, OldSample}
-use Rattle.model.specs.declared.Outcome.TheVariants.{Accepted, Refused}
 use Rattle.model.specs.declared.ConsolidationFn.TheVariants.{Average, Min, Max, Last, Sum, Count}
-use Rattle.model.specs.declared.TierFn.TheVariants.{None, Some}
 use Rattle.model.specs.Bytes.{le, bytes, part, splice, get, put}
 use Rattle.model.specs.Words.{number_of, outcome_no, function_no}
 use Rattle.model.specs.Image.{image_length, plan_check, create_check, open_check}
@@ -27,7 +25,7 @@ pub numbers_are :
     ≡ 1 ∷ 2 ∷ 3 ∷ 4 ∷ 5 ∷ 6 ∷ 7 ∷ 8 ∷ 9 ∷ 10 ∷ 11 ∷ 12 ∷ 13 ∷ 14 ∷ 15 ∷ 16 ∷ 17 ∷ 18 ∷ []
 numbers_are = refl
 
-pub outcomes_are : outcome_no Accepted ∷ outcome_no (Refused ShortBuffer) ∷ [] ≡ 0 ∷ 9 ∷ []
+pub outcomes_are : outcome_no (Ok tt) ∷ outcome_no (Err ShortBuffer) ∷ [] ≡ 0 ∷ 9 ∷ []
 outcomes_are = refl
 
 pub functions_are : map function_no (0 ∷ 1 ∷ 2 ∷ 3 ∷ 4 ∷ 5 ∷ 6 ∷ []) ≡ None ∷ Some Average ∷ Some Min ∷ Some Max ∷ Some Last ∷ Some Sum ∷ Some Count ∷ []

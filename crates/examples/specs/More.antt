@@ -1,11 +1,9 @@
 -- Sentences of document 01 that the cases A to L leave untried, as rows of the same kind, by computation. Assumes nothing.
-use Rattle.std.specs.Prelude.{ℕ, ◌≡◌, refl, true, false, List, [], ◌∷◌, ◌++◌, replicate, pos}
+use Rattle.std.specs.Prelude.{ℕ, ◌≡◌, refl, true, false, List, [], ◌∷◌, ◌++◌, replicate, pos, Some, None}
 use Rattle.model.specs.declared.Row.{Row}
 use Rattle.std.specs.Float.{binary64}
 use Rattle.std.specs.Float.Ieee.{of_bits}
-use Rattle.model.specs.declared.Next.TheVariants.{Handed, Finished}
 use Rattle.model.specs.declared.Stepped.{Stepped}
-use Rattle.model.specs.declared.End.TheVariants.{At, Missing}
 use Rattle.model.specs.declared.ConsolidationFn.TheVariants.{Average, Min, Max, Last, Sum, Count}
 use Rattle.model.specs.Bytes.{bytes, put}
 use Rattle.model.specs.Layout.{fresh_value}
@@ -37,34 +35,34 @@ by f = tier 0 10 20 0 ∷ tier 1 20 40 f ∷ []
 unfoldable pub rows : List Case
 rows =
     -- other columns' cells stay
-    (story (ring10 4) (rec 10 1 ∷ record_call 0 1 (num 5) 10 ∷ everything 0 ∷ []) gives last (false ∷ []) (0 ∷ []) (points 0 (At 10) (At 10) 0 end64 true (at 10 1 ∷ [])))
+    (story (ring10 4) (rec 10 1 ∷ record_call 0 1 (num 5) 10 ∷ everything 0 ∷ []) gives last (false ∷ []) (0 ∷ []) (points 0 (Some 10) (Some 10) 0 end64 true (at 10 1 ∷ [])))
     -- a column named twice keeps its last value
     ∷ (story (ring10 4) (batch_call (record { schema = 0; column = 0; value = num 1 } ∷ record { schema = 0; column = 0; value = num 2 } ∷ []) 10 ∷ everything 0 ∷ [])
-    gives last (false ∷ []) (0 ∷ []) (points 0 (At 10) (At 10) 0 end64 true (at 10 2 ∷ [])))
+    gives last (false ∷ []) (0 ∷ []) (points 0 (Some 10) (Some 10) 0 end64 true (at 10 2 ∷ [])))
     -- minus infinity is infinite
     ∷ (story (ring10 4) (record_call 0 0 0xfff0_0000_0000_0000 10 ∷ []) gives last (false ∷ []) (0 ∷ []) (refusal 12))
     -- an empty ring lacks both ends; the automatic choice is then tier 0
-    ∷ (story small (auto_call 0 0 5 9 ∷ []) gives last (false ∷ false ∷ []) (0 ∷ 0 ∷ []) (points 0 Missing Missing 5 9 true []))
+    ∷ (story small (auto_call 0 0 5 9 ∷ []) gives last (false ∷ false ∷ []) (0 ∷ 0 ∷ []) (points 0 None None 5 9 true []))
     -- the first tier that fully covers, else the last with both ends
-    ∷ (story small (covering ++ auto_call 0 0 60 80 ∷ []) gives last (true ∷ false ∷ []) (80 ∷ 0 ∷ []) (points 0 (At 60) (At 80) 60 80 false (at 60 5 ∷ at 70 7 ∷ [])))
-    ∷ (story small (covering ++ auto_call 0 0 30 60 ∷ []) gives last (true ∷ false ∷ []) (80 ∷ 0 ∷ []) (points 1 (At 30) (At 60) 30 60 false (at 30 3 ∷ [])))
-    ∷ (story small (covering ++ auto_call 0 0 30 81 ∷ []) gives last (true ∷ false ∷ []) (80 ∷ 0 ∷ []) (points 1 (At 30) (At 60) 30 81 false (at 30 3 ∷ at 60 7 ∷ [])))
+    ∷ (story small (covering ++ auto_call 0 0 60 80 ∷ []) gives last (true ∷ false ∷ []) (80 ∷ 0 ∷ []) (points 0 (Some 60) (Some 80) 60 80 false (at 60 5 ∷ at 70 7 ∷ [])))
+    ∷ (story small (covering ++ auto_call 0 0 30 60 ∷ []) gives last (true ∷ false ∷ []) (80 ∷ 0 ∷ []) (points 1 (Some 30) (Some 60) 30 60 false (at 30 3 ∷ [])))
+    ∷ (story small (covering ++ auto_call 0 0 30 81 ∷ []) gives last (true ∷ false ∷ []) (80 ∷ 0 ∷ []) (points 1 (Some 30) (Some 60) 30 81 false (at 30 3 ∷ at 60 7 ∷ [])))
     -- D reopened is wrapped; a ring of one slot is not
     ∷ (story (ring10 4) (rec 10 1 ∷ rec 20 2 ∷ rec 30 3 ∷ rec 40 4 ∷ open_call (replicate 32 false) ∷ everything 0 ∷ [])
-    gives last (true ∷ []) (0 ∷ []) (points 0 (At 10) (At 40) 0 end64 true (at 10 1 ∷ at 20 2 ∷ at 30 3 ∷ at 40 4 ∷ [])))
-    ∷ (story (ring10 1) (rec 10 1 ∷ rec 20 2 ∷ open_call (replicate 32 true) ∷ everything 0 ∷ []) gives last (false ∷ []) (0 ∷ []) (points 0 (At 20) (At 20) 0 end64 true (at 20 2 ∷ [])))
+    gives last (true ∷ []) (0 ∷ []) (points 0 (Some 10) (Some 40) 0 end64 true (at 10 1 ∷ at 20 2 ∷ at 30 3 ∷ at 40 4 ∷ [])))
+    ∷ (story (ring10 1) (rec 10 1 ∷ rec 20 2 ∷ open_call (replicate 32 true) ∷ everything 0 ∷ []) gives last (false ∷ []) (0 ∷ []) (points 0 (Some 20) (Some 20) 0 end64 true (at 20 2 ∷ [])))
     -- the count is of writes, not of windows
     ∷ (story (by 1) (both 20 (num 1) (num 2) ∷ both 30 (num 3) (num 4) ∷ consolidate_call ∷ []) gives last (false ∷ false ∷ []) (30 ∷ 0 ∷ []) (writes 2))
     -- each function by its number: Min, Max, Last, Sum, Count of 3 and 2
-    ∷ (story (by 2) (rec 20 3 ∷ rec 30 2 ∷ consolidate_call ∷ everything 1 ∷ []) gives last (false ∷ false ∷ []) (30 ∷ 0 ∷ []) (points 1 (At 20) (At 20) 0 end64 true (at 20 2 ∷ [])))
-    ∷ (story (by 3) (rec 20 3 ∷ rec 30 2 ∷ consolidate_call ∷ everything 1 ∷ []) gives last (false ∷ false ∷ []) (30 ∷ 0 ∷ []) (points 1 (At 20) (At 20) 0 end64 true (at 20 3 ∷ [])))
-    ∷ (story (by 4) (rec 20 3 ∷ rec 30 1 ∷ consolidate_call ∷ everything 1 ∷ []) gives last (false ∷ false ∷ []) (30 ∷ 0 ∷ []) (points 1 (At 20) (At 20) 0 end64 true (at 20 1 ∷ [])))
-    ∷ (story (by 5) (rec 20 3 ∷ rec 30 2 ∷ consolidate_call ∷ everything 1 ∷ []) gives last (false ∷ false ∷ []) (30 ∷ 0 ∷ []) (points 1 (At 20) (At 20) 0 end64 true (at 20 5 ∷ [])))
-    ∷ (story (by 6) (rec 20 3 ∷ rec 30 3 ∷ consolidate_call ∷ everything 1 ∷ []) gives last (false ∷ false ∷ []) (30 ∷ 0 ∷ []) (points 1 (At 20) (At 20) 0 end64 true (at 20 2 ∷ [])))
+    ∷ (story (by 2) (rec 20 3 ∷ rec 30 2 ∷ consolidate_call ∷ everything 1 ∷ []) gives last (false ∷ false ∷ []) (30 ∷ 0 ∷ []) (points 1 (Some 20) (Some 20) 0 end64 true (at 20 2 ∷ [])))
+    ∷ (story (by 3) (rec 20 3 ∷ rec 30 2 ∷ consolidate_call ∷ everything 1 ∷ []) gives last (false ∷ false ∷ []) (30 ∷ 0 ∷ []) (points 1 (Some 20) (Some 20) 0 end64 true (at 20 3 ∷ [])))
+    ∷ (story (by 4) (rec 20 3 ∷ rec 30 1 ∷ consolidate_call ∷ everything 1 ∷ []) gives last (false ∷ false ∷ []) (30 ∷ 0 ∷ []) (points 1 (Some 20) (Some 20) 0 end64 true (at 20 1 ∷ [])))
+    ∷ (story (by 5) (rec 20 3 ∷ rec 30 2 ∷ consolidate_call ∷ everything 1 ∷ []) gives last (false ∷ false ∷ []) (30 ∷ 0 ∷ []) (points 1 (Some 20) (Some 20) 0 end64 true (at 20 5 ∷ [])))
+    ∷ (story (by 6) (rec 20 3 ∷ rec 30 3 ∷ consolidate_call ∷ everything 1 ∷ []) gives last (false ∷ false ∷ []) (30 ∷ 0 ∷ []) (points 1 (Some 20) (Some 20) 0 end64 true (at 20 2 ∷ [])))
     -- 12 from a write: column 1's sum overflows; column 0's write stays, the mark does not move
     ∷ (story (by 5) (both 20 (num 1) 0x7fef_ffff_ffff_ffff ∷ both 30 (num 1) 0x7fef_ffff_ffff_ffff ∷ consolidate_call ∷ []) gives last (false ∷ false ∷ []) (0 ∷ 0 ∷ []) (refusal 12))
     ∷ (story (by 5) (both 20 (num 1) 0x7fef_ffff_ffff_ffff ∷ both 30 (num 1) 0x7fef_ffff_ffff_ffff ∷ consolidate_call ∷ everything 1 ∷ [])
-    gives last (false ∷ false ∷ []) (0 ∷ 0 ∷ []) (points 1 (At 20) (At 20) 0 end64 true (at 20 2 ∷ [])))
+    gives last (false ∷ false ∷ []) (0 ∷ 0 ∷ []) (points 1 (Some 20) (Some 20) 0 end64 true (at 20 2 ∷ [])))
     -- 16 in the second pair: the first pair's mark stays
     ∷ (story (tier 0 10 20 0 ∷ tier 1 20 20 1 ∷ tier 2 40 40 0 ∷ []) (rec 20 1 ∷ consolidate_call ∷ []) gives last (false ∷ false ∷ false ∷ []) (20 ∷ 0 ∷ 0 ∷ []) (refusal 16))
     -- a window's answer: the functions, zeros, non-finite values dropped, no value
@@ -100,7 +98,7 @@ ends cs = shown_on (last_call (record { reply = done; lent = schemas2 }) cs)
 
 -- a batch over both schemas; a run touches schema 1's pair alone; a refused batch stores nothing
 pub over-both : ends (batch_call (entry_of 1 0 (num 4) ∷ entry_of 0 0 (num 3) ∷ []) 20 ∷ query_call 1 0 0 0 end64 ∷ [])
-    ≡ last (false ∷ false ∷ false ∷ []) (0 ∷ 0 ∷ 0 ∷ []) (points 0 (At 20) (At 20) 0 end64 true (at 20 4 ∷ []))
+    ≡ last (false ∷ false ∷ false ∷ []) (0 ∷ 0 ∷ 0 ∷ []) (points 0 (Some 20) (Some 20) 0 end64 true (at 20 4 ∷ []))
 unfolding Cases-defs schemas2 entry_of ends
 over-both = refl
 
@@ -163,7 +161,7 @@ opened_flags = refl
 unfoldable pub step_with : ℕ → Stepped
 step_with k = step (ring (call tiny (record_call 0 1 (num 3) 10)).lent 0).slab 1 0 end64 (record { slot = 0; left = k })
 
-pub slots-left : ((step_with 1).next ≡ Handed (at 10 3)) × ((step_with 2).next ≡ Finished)
+pub slots-left : ((step_with 1).next ≡ Some (at 10 3)) × ((step_with 2).next ≡ None)
 unfolding Cases-defs tiny step_with
 slots-left = (refl, refl)
 

@@ -1,6 +1,5 @@
 -- The wrap flags that opening works out, row by row; opening as a call; the rows' numbers by schema and tier. By computation. Assumes nothing.
-use Rattle.std.specs.Prelude.{ℕ, ◌+◌, ◌*◌, ◌≡◌, refl, Bool, true, false, List, [], ◌∷◌, map, drop, replicate}
-use Rattle.model.specs.declared.End.TheVariants.{At, Missing}
+use Rattle.std.specs.Prelude.{ℕ, ◌+◌, ◌*◌, ◌≡◌, refl, Bool, true, false, List, [], ◌∷◌, map, drop, replicate, Some, None}
 use Rattle.model.specs.Bytes.{put}
 use Rattle.model.specs.Layout.{fresh_slab}
 use Rattle.model.specs.Ring.{Ring, wrap_flag, oldest, newest, order, first_place}
@@ -92,16 +91,16 @@ wrapped_ring s = record { slab = s; wrapped = true }
 
 -- with stamp 0 at the cursor a ring is empty, whatever the other stamps are: no order, no ends; its reading stands at slot 0, wherever the cursor is
 pub nothing_at-cursor :
-    (order (wrapped_ring (stamped 0 0 20 30)) ≡ []) × (oldest (wrapped_ring (stamped 0 0 20 30)) ≡ Missing) × (newest (wrapped_ring (stamped 0 0 20 30)) ≡ Missing)
+    (order (wrapped_ring (stamped 0 0 20 30)) ≡ []) × (oldest (wrapped_ring (stamped 0 0 20 30)) ≡ None) × (newest (wrapped_ring (stamped 0 0 20 30)) ≡ None)
     × (first_place (wrapped_ring (stamped 1 20 0 30)) ≡ record { slot = 0; left = 0 })
 unfolding Cases-defs stamped wrapped_ring
 nothing_at-cursor = (refl, refl, refl, refl)
 
 -- the order begins after the cursor, and at 0 where the cursor is last; the oldest is the first that is not 0, not the least, the newest the one at the cursor
 pub ends_are :
-    (order (wrapped_ring (stamped 1 20 5 0)) ≡ 2 ∷ 0 ∷ 1 ∷ []) × (oldest (wrapped_ring (stamped 1 20 5 0)) ≡ At 20) × (newest (wrapped_ring (stamped 1 20 5 0)) ≡ At 5)
-    × (order (wrapped_ring (stamped 2 20 5 1)) ≡ 0 ∷ 1 ∷ 2 ∷ []) × (newest (wrapped_ring (stamped 2 20 5 1)) ≡ At 1)
-    × (order (record { slab = stamped 1 0 5 9; wrapped = false }) ≡ 0 ∷ 1 ∷ []) × (oldest (record { slab = stamped 1 0 5 9; wrapped = false }) ≡ At 5)
+    (order (wrapped_ring (stamped 1 20 5 0)) ≡ 2 ∷ 0 ∷ 1 ∷ []) × (oldest (wrapped_ring (stamped 1 20 5 0)) ≡ Some 20) × (newest (wrapped_ring (stamped 1 20 5 0)) ≡ Some 5)
+    × (order (wrapped_ring (stamped 2 20 5 1)) ≡ 0 ∷ 1 ∷ 2 ∷ []) × (newest (wrapped_ring (stamped 2 20 5 1)) ≡ Some 1)
+    × (order (record { slab = stamped 1 0 5 9; wrapped = false }) ≡ 0 ∷ 1 ∷ []) × (oldest (record { slab = stamped 1 0 5 9; wrapped = false }) ≡ Some 5)
 unfolding Cases-defs stamped wrapped_ring
 ends_are = (refl, refl, refl, refl, refl, refl, refl)
 

@@ -1,12 +1,8 @@
 -- A reader's whole steps, readers made by hand that can't be read, and a query's whole answer of a row that is not the first. By computation. Assumes nothing.
-use Rattle.std.specs.Prelude.{ℕ, ◌≡◌, refl, true, false, List, [], ◌∷◌, ◌++◌, take, drop, replicate}
+use Rattle.std.specs.Prelude.{ℕ, ◌≡◌, refl, true, false, List, [], ◌∷◌, ◌++◌, take, drop, replicate, Option, Some, None, Ok, Err}
 use Rattle.model.specs.declared.Refusal.TheVariants.{InvalidTier}
 use Rattle.model.specs.declared.Point.{Point}
-use Rattle.model.specs.declared.Next.{Next}
-use Rattle.model.specs.declared.Next.TheVariants.{Handed, Finished}
 use Rattle.model.specs.declared.Stepped.{Stepped}
-use Rattle.model.specs.declared.End.TheVariants.{At, Missing}
-use Rattle.model.specs.declared.Queried.TheVariants.{Answer, Refused}
 use Rattle.model.specs.Bytes.{bytes, put}
 use Rattle.model.specs.Layout.{fresh_value, fresh_slab}
 use Rattle.model.specs.Read.{Reader, step, points_of, full, incomplete, both_ends}
@@ -25,7 +21,7 @@ slab3 =
 unfoldable pub step_at : List ℕ → ℕ → ℕ → ℕ → Stepped
 step_at s c i k = step s c 0 end64 (record { slot = i; left = k })
 
-unfoldable pub then : Next → ℕ → ℕ → Stepped
+unfoldable pub then : Option Point → ℕ → ℕ → Stepped
 then x i k = record { next = x; place = record { slot = i; left = k } }
 
 unfoldable pub Readings-defs : Unit {0}
@@ -36,7 +32,7 @@ Readings-defs = tt
 -- the slots passed over, with none left
 pub steps_are :
     step_at slab3 1 1 3 ∷ step_at slab3 1 2 2 ∷ step_at slab3 0 2 1 ∷ step_at slab3 1 2 1 ∷ step_at slab3 1 1 0 ∷ []
-    ≡ then (Handed (at 10 2)) 2 2 ∷ then (Handed (at 30 1)) 1 0 ∷ then (Handed (at 20 7)) 0 0 ∷ then Finished 0 0 ∷ then Finished 1 0 ∷ []
+    ≡ then (Some (at 10 2)) 2 2 ∷ then (Some (at 30 1)) 1 0 ∷ then (Some (at 20 7)) 0 0 ∷ then None 0 0 ∷ then None 1 0 ∷ []
 unfolding Readings-defs
 steps_are = refl
 
@@ -44,19 +40,19 @@ steps_are = refl
 pub ranges_are :
     step slab3 0 20 30 (record { slot = 0; left = 3 }) ∷ step slab3 0 21 30 (record { slot = 0; left = 3 }) ∷ step slab3 0 30 31 (record { slot = 1; left = 3 })
     ∷ step slab3 0 31 end64 (record { slot = 2; left = 2 }) ∷ []
-    ≡ then (Handed (at 20 7)) 0 0 ∷ then Finished 0 0 ∷ then (Handed (at 30 5)) 1 0 ∷ then Finished 1 0 ∷ []
+    ≡ then (Some (at 20 7)) 0 0 ∷ then None 0 0 ∷ then (Some (at 30 5)) 1 0 ∷ then None 1 0 ∷ []
 unfolding Readings-defs
 ranges_are = refl
 
 -- by hand: column = series; slot = slots; one slot more left than there are; a slab one byte too short, one that ends in the header, an empty one. Each is at its end, its slot as it was
 pub by_hand :
     step_at slab3 2 1 3 ∷ step_at slab3 1 3 3 ∷ step_at slab3 1 1 4 ∷ step_at (take 143 slab3) 1 1 3 ∷ step_at (take 63 slab3) 1 1 3 ∷ step_at [] 0 1 3 ∷ []
-    ≡ then Finished 1 0 ∷ then Finished 3 0 ∷ then Finished 1 0 ∷ then Finished 1 0 ∷ then Finished 1 0 ∷ then Finished 1 0 ∷ []
+    ≡ then None 1 0 ∷ then None 3 0 ∷ then None 1 0 ∷ then None 1 0 ∷ then None 1 0 ∷ then None 1 0 ∷ []
 unfolding Readings-defs
 by_hand = refl
 
 -- a slab with surplus is read; a slot with stamp 0 and a value is handed out, too, from start 0 on
-pub read_too : step_at (slab3 ++ 9 ∷ []) 1 1 3 ∷ step_at (put 8 slab3 80 0) 1 1 3 ∷ [] ≡ then (Handed (at 10 2)) 2 2 ∷ then (Handed (at 0 2)) 2 2 ∷ []
+pub read_too : step_at (slab3 ++ 9 ∷ []) 1 1 3 ∷ step_at (put 8 slab3 80 0) 1 1 3 ∷ [] ≡ then (Some (at 10 2)) 2 2 ∷ then (Some (at 0 2)) 2 2 ∷ []
 unfolding Readings-defs
 read_too = refl
 
@@ -71,8 +67,8 @@ points_are = refl
 -- ---- coverage where an end is missing
 
 pub no_ends :
-    full Missing Missing 5 6 ∷ full Missing (At 9) 5 6 ∷ full (At 5) Missing 5 6 ∷ incomplete Missing Missing 5 6 ∷ incomplete Missing (At 9) 5 6 ∷ incomplete (At 5) Missing 5 6
-    ∷ both_ends Missing Missing ∷ both_ends Missing (At 9) ∷ both_ends (At 5) Missing ∷ both_ends (At 5) (At 9) ∷ []
+    full None None 5 6 ∷ full None (Some 9) 5 6 ∷ full (Some 5) None 5 6 ∷ incomplete None None 5 6 ∷ incomplete None (Some 9) 5 6 ∷ incomplete (Some 5) None 5 6
+    ∷ both_ends None None ∷ both_ends None (Some 9) ∷ both_ends (Some 5) None ∷ both_ends (Some 5) (Some 9) ∷ []
     ≡ false ∷ false ∷ false ∷ true ∷ true ∷ true ∷ false ∷ false ∷ false ∷ true ∷ []
 unfolding Readings-defs
 no_ends = refl
@@ -101,11 +97,11 @@ answers_of l = query l 1 1 0 15 35 ∷ query l 1 0 1 3 9 ∷ query l 1 1 2 5 6 �
 
 pub answers_are :
     answers_of filled
-    ≡ found (record { tier = 0; oldest = At 10; newest = At 30; start = 15; end = 35; incomplete = false; from = 388; to = 532; reader = reader_of slab3 1 15 35 1 3 })
-    ∷ found (record { tier = 1; oldest = At 4; newest = At 20; start = 3; end = 9; incomplete = true; from = 532; to = 652; reader = reader_of slab2 0 3 9 0 2 })
-    ∷ found (record { tier = 2; oldest = Missing; newest = Missing; start = 5; end = 6; incomplete = true; from = 652; to = 748; reader = reader_of (fresh_slab 7 1 2 40) 1 5 6 0 0 })
-    ∷ found (record { tier = 0; oldest = Missing; newest = Missing; start = 5; end = 6; incomplete = true; from = 288; to = 388; reader = reader_of (fresh_slab 7 2 1 10) 0 5 6 0 0 })
-    ∷ found (record { tier = 1; oldest = At 4; newest = At 20; start = 5; end = 15; incomplete = false; from = 532; to = 652; reader = reader_of slab2 1 5 15 0 2 }) ∷ []
+    ≡ found (record { tier = 0; oldest = Some 10; newest = Some 30; start = 15; end = 35; incomplete = false; from = 388; to = 532; reader = reader_of slab3 1 15 35 1 3 })
+    ∷ found (record { tier = 1; oldest = Some 4; newest = Some 20; start = 3; end = 9; incomplete = true; from = 532; to = 652; reader = reader_of slab2 0 3 9 0 2 })
+    ∷ found (record { tier = 2; oldest = None; newest = None; start = 5; end = 6; incomplete = true; from = 652; to = 748; reader = reader_of (fresh_slab 7 1 2 40) 1 5 6 0 0 })
+    ∷ found (record { tier = 0; oldest = None; newest = None; start = 5; end = 6; incomplete = true; from = 288; to = 388; reader = reader_of (fresh_slab 7 2 1 10) 0 5 6 0 0 })
+    ∷ found (record { tier = 1; oldest = Some 4; newest = Some 20; start = 5; end = 15; incomplete = false; from = 532; to = 652; reader = reader_of slab2 1 5 15 0 2 }) ∷ []
 unfolding Readings-defs fresh4 slab2 filled reader_of answers_of
 answers_are = refl
 
@@ -136,10 +132,10 @@ chosen_too_lem = refl
 -- ---- the code's answer as the definitions': its reader has the image from `from` up to `to`
 
 pub replied_by_lem :
-    replied_by (0 ∷ 1 ∷ 2 ∷ 3 ∷ 4 ∷ 5 ∷ 6 ∷ []) (Answer (record {
+    replied_by (0 ∷ 1 ∷ 2 ∷ 3 ∷ 4 ∷ 5 ∷ 6 ∷ []) (Ok (record {
       tier = 1;
-      oldest = At 2;
-      newest = At 3;
+      oldest = Some 2;
+      newest = Some 3;
       start = 4;
       end = 5;
       incomplete = true;
@@ -148,8 +144,8 @@ pub replied_by_lem :
       to = 5;
       place = record { slot = 7; left = 8 };
     }))
-    ∷ replied_by [] (Refused InvalidTier) ∷ []
-    ≡ found (record { tier = 1; oldest = At 2; newest = At 3; start = 4; end = 5; incomplete = true; from = 2; to = 5; reader = reader_of (2 ∷ 3 ∷ 4 ∷ []) 6 4 5 7 8 })
+    ∷ replied_by [] (Err InvalidTier) ∷ []
+    ≡ found (record { tier = 1; oldest = Some 2; newest = Some 3; start = 4; end = 5; incomplete = true; from = 2; to = 5; reader = reader_of (2 ∷ 3 ∷ 4 ∷ []) 6 4 5 7 8 })
     ∷ not_found 14 ∷ []
 unfolding Readings-defs reader_of
 replied_by_lem = refl

@@ -1,7 +1,6 @@
 -- What a recording accepts, stores and leaves: patterns of NaN, stamps, batches, two schemas with different max series. By computation. Assumes nothing.
-use Rattle.std.specs.Prelude.{ℕ, ◌-◌, ◌^◌, ◌≡◌, refl, Bool, true, false, List, [], ◌∷◌, ◌++◌, replicate}
+use Rattle.std.specs.Prelude.{ℕ, ◌-◌, ◌^◌, ◌≡◌, refl, Bool, true, false, List, [], ◌∷◌, ◌++◌, replicate, Some}
 use Rattle.model.specs.declared.Row.{Row}
-use Rattle.model.specs.declared.End.TheVariants.{At}
 use Rattle.model.specs.Bytes.{put}
 use Rattle.model.specs.Layout.{fresh_head, fresh_slab}
 use Rattle.model.specs.Ring.{Ring, write}
@@ -31,18 +30,18 @@ unfoldable pub nans : List Case
 nans =
     -- accepted, but not handed out
     (story (pair_by 6) (record_call 0 0 negative 20 ∷ []) gives last (false ∷ false ∷ []) (0 ∷ 0 ∷ []) accepted)
-    ∷ (story (pair_by 6) (record_call 0 0 negative 20 ∷ rec 30 3 ∷ everything 0 ∷ []) gives last (false ∷ false ∷ []) (0 ∷ 0 ∷ []) (points 0 (At 20) (At 30) 0 end64 true (at 30 3 ∷ [])))
+    ∷ (story (pair_by 6) (record_call 0 0 negative 20 ∷ rec 30 3 ∷ everything 0 ∷ []) gives last (false ∷ false ∷ []) (0 ∷ 0 ∷ []) (points 0 (Some 20) (Some 30) 0 end64 true (at 30 3 ∷ [])))
     ∷ (story (pair_by 6) (batch_call (record { schema = 0; column = 0; value = signalling } ∷ []) 20 ∷ []) gives last (false ∷ false ∷ []) (0 ∷ 0 ∷ []) accepted)
-    ∷ (story (pair_by 6) (record_call 0 0 signalling 20 ∷ rec 30 3 ∷ everything 0 ∷ []) gives last (false ∷ false ∷ []) (0 ∷ 0 ∷ []) (points 0 (At 20) (At 30) 0 end64 true (at 30 3 ∷ [])))
+    ∷ (story (pair_by 6) (record_call 0 0 signalling 20 ∷ rec 30 3 ∷ everything 0 ∷ []) gives last (false ∷ false ∷ []) (0 ∷ 0 ∷ []) (points 0 (Some 20) (Some 30) 0 end64 true (at 30 3 ∷ [])))
     -- no value of a window: it is not counted, and alone it makes no write
     ∷ (story (pair_by 6) (record_call 0 0 negative 20 ∷ rec 30 3 ∷ consolidate_call ∷ everything 1 ∷ [])
-    gives last (false ∷ false ∷ []) (30 ∷ 0 ∷ []) (points 1 (At 20) (At 20) 0 end64 true (at 20 1 ∷ [])))
+    gives last (false ∷ false ∷ []) (30 ∷ 0 ∷ []) (points 1 (Some 20) (Some 20) 0 end64 true (at 20 1 ∷ [])))
     ∷ (story (pair_by 6) (record_call 0 0 signalling 20 ∷ rec 30 3 ∷ consolidate_call ∷ everything 1 ∷ [])
-    gives last (false ∷ false ∷ []) (30 ∷ 0 ∷ []) (points 1 (At 20) (At 20) 0 end64 true (at 20 1 ∷ [])))
+    gives last (false ∷ false ∷ []) (30 ∷ 0 ∷ []) (points 1 (Some 20) (Some 20) 0 end64 true (at 20 1 ∷ [])))
     ∷ (story (pair_by 6) (record_call 0 0 negative 20 ∷ record_call 0 0 signalling 30 ∷ consolidate_call ∷ []) gives last (false ∷ false ∷ []) (0 ∷ 0 ∷ []) (writes 0))
     -- the greatest finite number is a number
     ∷ (story (pair_by 2) (record_call 0 0 greatest 20 ∷ consolidate_call ∷ everything 1 ∷ [])
-    gives last (false ∷ false ∷ []) (20 ∷ 0 ∷ []) (points 1 (At 20) (At 20) 0 end64 true (record { stamp = 20; value = greatest } ∷ [])))
+    gives last (false ∷ false ∷ []) (20 ∷ 0 ∷ []) (points 1 (Some 20) (Some 20) 0 end64 true (record { stamp = 20; value = greatest } ∷ [])))
     ∷ []
 
 pub nans_are : Holds nans

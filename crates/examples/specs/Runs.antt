@@ -1,8 +1,5 @@
 -- Runs beyond the rows of More: what a run answers, its marks and flags, and what stands at some places of the image after it. By computation. Assumes nothing.
-use Rattle.std.specs.Prelude.{ℕ, ◌-◌, ◌^◌, ◌≡◌, refl, Bool, true, false, ◌&&◌, cond, List, [], ◌∷◌, map, take, replicate, T, eqb}
-use Rattle.model.specs.declared.Outcome.TheVariants as O
-use Rattle.model.specs.declared.Consolidated.TheVariants as C
-use Rattle.model.specs.declared.Queried.TheVariants as Q
+use Rattle.std.specs.Prelude.{ℕ, ◌-◌, ◌^◌, ◌≡◌, refl, Bool, true, false, ◌&&◌, cond, List, [], ◌∷◌, map, take, replicate, T, eqb, Ok, Err}
 use Rattle.model.specs.declared.Refusal.TheVariants.{BadImage, CorruptedSlab, InvalidTier, NoConsolidationFunction}
 use Rattle.model.specs.Bytes.{put, get}
 use Rattle.model.specs.Layout.{fresh_value}
@@ -301,8 +298,8 @@ replies_are = refl
 
 -- the code's answers as replies
 pub answers_as_replies :
-    outcome_reply O.Accepted ∷ outcome_reply (O.Refused BadImage) ∷ outcome_reply (O.Refused NoConsolidationFunction)
-    ∷ consolidated_reply (C.Wrote 7) ∷ consolidated_reply (C.Refused CorruptedSlab) ∷ queried_reply [] (Q.Refused InvalidTier) ∷ []
+    outcome_reply (Ok tt) ∷ outcome_reply (Err BadImage) ∷ outcome_reply (Err NoConsolidationFunction)
+    ∷ consolidated_reply (Ok 7) ∷ consolidated_reply (Err CorruptedSlab) ∷ queried_reply [] (Err InvalidTier) ∷ []
     ≡ done ∷ refused 1 ∷ refused 16 ∷ wrote 7 ∷ refused 10 ∷ refused 14 ∷ []
 unfolding Runs-defs
 answers_as_replies = refl

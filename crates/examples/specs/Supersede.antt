@@ -1,7 +1,6 @@
 -- Which sample supersedes which (request 2026-05), sentence by sentence: single records, batches over two schemas, what a run passes over. By computation.
 -- Assumes nothing.
-use Rattle.std.specs.Prelude.{ℕ, ◌-◌, ◌^◌, ◌≡◌, refl, Bool, true, false, List, [], ◌∷◌, map, take, replicate}
-use Rattle.model.specs.declared.End.TheVariants.{At}
+use Rattle.std.specs.Prelude.{ℕ, ◌-◌, ◌^◌, ◌≡◌, refl, Bool, true, false, List, [], ◌∷◌, map, take, replicate, Some}
 use Rattle.model.specs.Bytes.{put}
 use Rattle.model.specs.Layout.{fresh_value}
 use Rattle.model.specs.Image.{rows}
@@ -114,7 +113,7 @@ edges_are = refl
 
 -- on equal stamps the later call's value reads; an old one left nothing
 pub later-reads :
-    reads (after (fresh (ring10 4)) (rec 50 5 ∷ rec 90 9 ∷ rec 90 8 ∷ rec 50 7 ∷ [])) ≡ points 0 (At 90) (At 90) 0 end64 true (at 90 8 ∷ [])
+    reads (after (fresh (ring10 4)) (rec 50 5 ∷ rec 90 9 ∷ rec 90 8 ∷ rec 50 7 ∷ [])) ≡ points 0 (Some 90) (Some 90) 0 end64 true (at 90 8 ∷ [])
 unfolding Supersede-defs
 later-reads = refl
 

@@ -1,5 +1,6 @@
 -- One turn of the loop that fetches: a step of the reader, its point stored. What is still to be fetched, stored after what is stored, is what was asked.
 -- Assumes nothing.
+use Rattle.std.specs.Prelude.{Option, Some, None}
 use Prim.Native.Nat.{ℕ, suc, ◌+◌, ◌-◌, ◌*◌, ◌/◌, ◌≤◌, ◌<◌}
 use native.Mathlib.Omega.{arith}
 use mathlib.Core.Path.{◌≡◌, refl, ap, ◌∙◌}
@@ -10,8 +11,6 @@ use lib.Seq.{sets}
 use Rattle.model.specs.declared.Place.{Place}
 use Rattle.model.specs.declared.Point.{Point}
 use Rattle.model.specs.declared.Stepped.{Stepped}
-use Rattle.model.specs.declared.Next.{Next}
-use Rattle.model.specs.declared.Next.TheVariants.{Handed, Finished}
 use Rattle.model.specs.Read.{readable, step_from, step, stepped}
 use Rattle.ring_theory.proofs.Points.{step_place}
 use Rattle.fetch.specs.Fetch.{Fetch, then_fetch, fetch_up_to, words}
@@ -31,9 +30,6 @@ module _ (s : List ℕ) (c start end : ℕ) where
     pub placed : p ≡ asked.place
     pub stored : out ≡ sets old 0 (words asked.points)
 
-  pub begin : (old : List ℕ) (k : ℕ) (p : Place) → readable s c p ≡ true → Goes (fetch_up_to k s c start end p) old old k 0 p
-  begin old k p h = record { reads = h; counted = omega arith; placed = refl; stored = refl; same = refl }
-
   module _ {asked : Fetch} {old out : List ℕ} {k count : ℕ} {p : Place} {d : Stepped} (d-is : d ≡ step_from s c start end p.slot p.left) (g : Goes asked old out (suc k) count p) where
     here : step s c start end p ≡ d
     unfolding step
@@ -43,11 +39,11 @@ module _ (s : List ℕ) (c start end : ℕ) where
     unfolding fetch_up_to
     one = rw here
 
-    by_next : {y : Next} → d.next ≡ y → fetch_up_to (suc k) s c start end p ≡ then_fetch y d.place (fetch_up_to k s c start end d.place)
-    by_next e = one ∙ ap (λ (y : Next). then_fetch y d.place (fetch_up_to k s c start end d.place)) e
+    by_next : {y : Option Point} → d.next ≡ y → fetch_up_to (suc k) s c start end p ≡ then_fetch y d.place (fetch_up_to k s c start end d.place)
+    by_next e = one ∙ ap (λ (y : Option Point). then_fetch y d.place (fetch_up_to k s c start end d.place)) e
 
     -- a point
-    module _ {x : Point} (e : d.next ≡ Handed x) where
+    module _ {x : Point} (e : d.next ≡ Some x) where
       some_counted : count + suc (length (fetch_up_to k s c start end d.place).points) ≡ length asked.points
       unfolding then_fetch
       some_counted = rw (by_next e) at g.counted
@@ -73,7 +69,7 @@ module _ (s : List ℕ) (c start end : ℕ) where
           }
 
     -- the end
-    module _ (e : d.next ≡ Finished) where
+    module _ (e : d.next ≡ None) where
       none_counted : count + 0 ≡ length asked.points
       unfolding then_fetch
       none_counted = rw (by_next e) at g.counted
@@ -92,10 +88,10 @@ module _ (s : List ℕ) (c start end : ℕ) where
     inside : Goes asked old out (suc (room - (count + 1))) count p
     inside = let n : room - count ≡ suc (room - (count + 1)) = omega arith in rw n at g
 
-    pub turn : {x : Point} → d.next ≡ Handed x → Goes asked old (set (set out (2 * count) x.stamp) (2 * count + 1) x.value) (room - (count + 1)) (count + 1) d.place
+    pub turn : {x : Point} → d.next ≡ Some x → Goes asked old (set (set out (2 * count) x.stamp) (2 * count + 1) x.value) (room - (count + 1)) (count + 1) d.place
     turn e = let n : suc count ≡ count + 1 = omega arith in rw n at (again d-is inside e)
 
-    pub last : d.next ≡ Finished → Ended asked old out count d.place
+    pub last : d.next ≡ None → Ended asked old out count d.place
     last e = stop d-is inside e
 
   pub filled : {asked : Fetch} {old out : List ℕ} {room count : ℕ} {p : Place} → room ≤ count → Goes asked old out (room - count) count p → Ended asked old out count p

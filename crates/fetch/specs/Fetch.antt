@@ -1,9 +1,7 @@
 -- Several steps of a reader in one call: the points that up to k steps hand out, and the place after them. Assumes nothing.
-use Rattle.std.specs.Prelude.{ℕ, zero, suc, List, [], ◌∷◌}
+use Rattle.std.specs.Prelude.{ℕ, zero, suc, List, [], ◌∷◌, Option, Some, None}
 use Rattle.model.specs.declared.Place.{Place}
 use Rattle.model.specs.declared.Point.{Point}
-use Rattle.model.specs.declared.Next.{Next}
-use Rattle.model.specs.declared.Next.TheVariants.{Handed, Finished}
 use Rattle.model.specs.Read.{step}
 
 pub record Fetch : Type 0 where
@@ -11,9 +9,9 @@ pub record Fetch : Type 0 where
   pub place : Place
 
 -- what a step hands out, before what the later ones fetch; p is the place after it
-unfoldable pub then_fetch : Next → Place → Fetch → Fetch
-then_fetch Finished p later = record { points = []; place = p }
-then_fetch (Handed x) p later = record { points = x ∷ later.points; place = later.place }
+unfoldable pub then_fetch : Option Point → Place → Fetch → Fetch
+then_fetch None p later = record { points = []; place = p }
+then_fetch (Some x) p later = record { points = x ∷ later.points; place = later.place }
 
 -- up to k steps, from place p on
 unfoldable pub fetch_up_to : ℕ → List ℕ → ℕ → ℕ → ℕ → Place → Fetch

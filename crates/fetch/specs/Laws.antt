@@ -1,5 +1,5 @@
 -- What is fetched are the reader's points, as many as there is room for. For callers that speak of a reader's points. Assumes nothing.
-use Rattle.std.specs.Prelude.{ℕ, zero, suc, ◌≡◌, Bool}
+use Rattle.std.specs.Prelude.{ℕ, zero, suc, ◌≡◌, Bool, Option, Some, None}
 use Rattle.std.proofs.Math.Path.{refl, ap}
 use Rattle.std.proofs.Common.{sym, ◌∙◌}
 use Rattle.std.proofs.Math.Bool.{true, false}
@@ -7,8 +7,6 @@ use mathlib.Core.List.{List, [], ◌∷◌}
 use Rattle.std.proofs.Math.ListN.{take}
 use Rattle.model.specs.declared.Place.{Place}
 use Rattle.model.specs.declared.Point.{Point}
-use Rattle.model.specs.declared.Next.{Next}
-use Rattle.model.specs.declared.Next.TheVariants.{Handed, Finished}
 use Rattle.model.specs.Read.{Reader, readable, step, stepped, and_then, points_of}
 use Rattle.ring_theory.specs.Points.{points_unreadable}
 use Rattle.ring_theory.proofs.Points.{points-step}
@@ -18,10 +16,10 @@ module _ (s : List ℕ) (c start end : ℕ) where
   abbrev from : Place → Reader
   from p = record { slab = s; column = c; start = start; end = end; place = p }
 
-  one : (k : ℕ) (x : Next) (q : Place) (later : Fetch) (ps : List Point) → later.points ≡ take k ps → (then_fetch x q later).points ≡ take (suc k) (and_then x ps)
+  one : (k : ℕ) (x : Option Point) (q : Place) (later : Fetch) (ps : List Point) → later.points ≡ take k ps → (then_fetch x q later).points ≡ take (suc k) (and_then x ps)
   unfolding then_fetch and_then
-  one k Finished q later ps h = refl
-  one k (Handed y) q later ps h = ap (λ (zs : List Point). y ∷ zs) h
+  one k None q later ps h = refl
+  one k (Some y) q later ps h = ap (λ (zs : List Point). y ∷ zs) h
 
   none : (k : ℕ) (p : Place) → readable s c p ≡ false → (fetch_up_to (suc k) s c start end p).points ≡ []
   unfolding fetch_up_to step stepped then_fetch

@@ -33,38 +33,20 @@ fn fetch_from(
     ensures stored { points.new ≡ sets points.old 0 (words (fetch_up_to (length points.old / 2) slab.now column start end place).points) }
 {
     let room = points.len() / 2;
-    let mut slot = place.slot;
-    let mut left = place.left;
-    let mut count = 0;
-    while count < room {
-        let here = model::Place {
-            slot: slot,
-            left: left,
-        };
+    let mut here = place;
+    for count in 0..room {
         let stepped = reader::step_from(slab, n, m, column as usize, start, end, here);
-        let after = stepped.place;
-        slot = after.slot;
-        left = after.left;
+        here = stepped.place;
         let next = stepped.next;
-        let model::Next::Handed(p) = next else {
-            return Fetched {
-                count: count,
-                place: model::Place {
-                    slot: slot,
-                    left: left,
-                },
-            };
+        let Some(p) = next else {
+            return Fetched { count, place: here };
         };
         points[2 * count] = p.stamp;
         points[2 * count + 1] = p.value;
-        count += 1;
     }
     Fetched {
-        count: count,
-        place: model::Place {
-            slot: slot,
-            left: left,
-        },
+        count: room,
+        place: here,
     }
 }
 

@@ -1,78 +1,52 @@
--- How code that goes byte by byte meets `le`, `get` and `put`; each law is over the width. Assumes nothing.
-use Prim.Native.Nat.{ℕ, zero, suc, ◌+◌, ◌*◌, ◌/◌, ◌%◌, ◌^◌, ◌≤◌, ◌<◌}
-use native.Mathlib.Nat.{add-suc, mul-le-mul_right, mul_assoc, add-mul, div-div-eq-div-mul, pow-suc}
-use native.Mathlib.Numerals.{add-one}
-use native.Mathlib.Omega.{arith}
-use mathlib.Core.Path.{◌≡◌, refl, sym, ap, ◌∙◌}
-use mathlib.Core.List.{List, [], ◌∷◌}
-use lib.ListN.{length, set}
-use lib.Seq.{sets}
-use lib.Bits.{bit_or, bit_and, or_shifted_r, and_mask}
+-- How the library's conversions meet `le`, `get` and `put`, and a pattern's exponent and fraction. Assumes nothing.
+use Rattle.std.proofs.Common.{arith, ℕ, zero, suc, ◌+◌, ◌-◌, ◌/◌, ◌%◌, ◌^◌, ◌≤◌, ◌≡◌, refl, sym, ap, ◌∙◌, List, [], ◌∷◌, length, get_or, pow-suc, div-one}
+use Rattle.std.proofs.Math.Nat.{div-div-eq-div-mul}
+use Rattle.std.proofs.lemmas.List.{take_all}
+use Rattle.std.specs.Int.{w32, w64, bytes_low_first, from_le_bytes}
+use borrow.Rule.Slice.PartMut.{put_mid}
+use lib.Bits.{bit_and, and_mask}
 use Rattle.model.specs.Bytes.{le, bytes, part, get, put}
-use Rattle.laws.specs.Bytes.{get-suc, splice_sets}
-use Rattle.field.specs.Indexed.{bytes_from, bytes_at}
+use Rattle.laws.specs.Bytes.{get-suc, length-bytes, lent-splice}
 
--- ---- bytes joined by `|`
+-- ---- a number from its bytes
 
--- each below 256
-abbrev pub Small : List ℕ → Type 0
-Small [] = Unit {0}
-Small (b ∷ bs) = (b < 256) × Small bs
+-- w bytes of s from index k on
+abbrev bytes_from : ℕ → List ℕ → ℕ → List ℕ
+bytes_from zero s k = []
+bytes_from (suc w) s k = get_or s k 0 ∷ bytes_from w s (suc k)
 
--- these bytes above the k low bits of v
-abbrev pub joined : ℕ → ℕ → List ℕ → ℕ
-joined v k [] = v
-joined v k (b ∷ bs) = joined (bit_or v (b * 2 ^ k)) (8 + k) bs
-
-pow_8 : (k : ℕ) → 2 ^ (8 + k) ≡ 256 * 2 ^ k
-pow_8 k =
-    let e : 8 + k ≡ suc (suc (suc (suc (suc (suc (suc (suc k))))))) = omega arith in
-    rw (e, pow-suc, pow-suc, pow-suc, pow-suc, pow-suc, pow-suc, pow-suc, pow-suc) (omega arith)
-
-pub joined-le : (v k : ℕ) (bs : List ℕ) → v < 2 ^ k → Small bs → joined v k bs ≡ v + le bs * 2 ^ k
-unfolding le
-joined-le v k [] h s = omega arith
-joined-le v k (b ∷ bs) h s =
-    let e : bit_or v (b * 2 ^ k) ≡ b * 2 ^ k + v = or_shifted_r b k v h in
-    let p : 2 ^ (8 + k) ≡ 256 * 2 ^ k = pow_8 k in
-    let l : b * 2 ^ k ≤ 255 * 2 ^ k = mul-le-mul_right (2 ^ k) (omega arith) in
-    let j = joined-le (bit_or v (b * 2 ^ k)) (8 + k) bs (omega arith) s.1 in
-    omega (arith, rw p at j, mul_assoc (le bs) 256 (2 ^ k), add-mul b (256 * le bs) (2 ^ k), mul_assoc 256 (le bs) (2 ^ k))
-
--- ---- a field by its bytes
-
-from_index : (w : ℕ) (s : List ℕ) (at k : ℕ) → at + k + w ≤ length s → le (bytes_from w s at k) ≡ get w s (at + k)
+from_index : (w : ℕ) (s : List ℕ) (k : ℕ) → k + w ≤ length s → le (bytes_from w s k) ≡ get w s k
 unfolding le get part
-from_index zero s at k h = refl
-from_index (suc w) s at k h = rw (from_index w s at (suc k) (omega arith), add-suc) (sym (get-suc w s (at + k) (omega arith)))
+from_index zero s k h = refl
+from_index (suc w) s k h = rw (from_index w s (suc k) (omega arith)) (sym (get-suc w s k (omega arith)))
 
-pub get-bytes : (w : ℕ) (s : List ℕ) (at : ℕ) → at + suc w ≤ length s → le (bytes_at w s at) ≡ get (suc w) s at
+whole : (w : ℕ) (s : List ℕ) → length s ≡ w → le (bytes_from w s 0) ≡ le s
+unfolding get part
+whole w s h = from_index w s 0 (omega arith) ∙ ap le (take_all w s (omega arith))
+
+pub from_4 : (s : List ℕ) → length s ≡ 4 → from_le_bytes w32 s ≡ le s
 unfolding le
-get-bytes w s at h = rw (from_index w s at 1 (omega arith), add-one) (sym (get-suc w s at (omega arith)))
+from_4 s h = omega (arith, whole 4 s h)
 
--- ---- a field's bytes, stored one by one
+pub from_8 : (s : List ℕ) → length s ≡ 8 → from_le_bytes w64 s ≡ le s
+unfolding le
+from_8 s h = omega (arith, whole 8 s h)
 
--- w bytes of x / d
-abbrev pub digits : ℕ → ℕ → ℕ → List ℕ
-digits zero x d = []
-digits (suc w) x d = x / d % 256 ∷ digits w x (d * 256)
+-- ---- the bytes of a number
 
-bytes-digits : (w x d : ℕ) → bytes w (x / d) ≡ digits w x d
+low_from : (i k x : ℕ) → bytes_low_first i k x ≡ bytes k (x / 256 ^ i)
 unfolding bytes
-bytes-digits zero x d = refl
-bytes-digits (suc w) x d = ap (◌∷◌ (x / d % 256)) (rw div-div-eq-div-mul (bytes-digits w x (d * 256)))
+low_from i zero x = refl
+low_from zero (suc k) x = rw (low_from 1 k x, div-one)
+low_from (suc i) (suc k) x = rw (low_from (suc (suc i)) k x, div-div-eq-div-mul, ← pow-suc)
 
-abbrev pub stores : List ℕ → ℕ → ℕ → List ℕ → List ℕ
-stores s at k [] = s
-stores s at k (b ∷ bs) = stores (set s (at + k) b) at (suc k) bs
+pub low_bytes : (k x : ℕ) → bytes_low_first 0 k x ≡ bytes k x
+low_bytes k x = low_from 0 k x ∙ rw div-one
 
-stores_sets : (bs s : List ℕ) (at k : ℕ) → stores s at k bs ≡ sets s (at + k) bs
-stores_sets [] s at k = refl
-stores_sets (b ∷ bs) s at k = stores_sets bs (set s (at + k) b) at (suc k) ∙ rw add-suc
-
-pub stored : (w : ℕ) (s : List ℕ) (at x : ℕ) → stores (set s at (x % 256)) at 1 (digits w x 256) ≡ put (suc w) s at x
-unfolding put bytes
-stored w s at x = stores_sets (digits w x 256) (set s at (x % 256)) at 1 ∙ rw (add-one, ← bytes-digits) (sym (splice_sets (bytes (suc w) x) s at))
+-- a part that was lent and has come back as w bytes of x
+pub stored : (w : ℕ) (s : List ℕ) (at x : ℕ) {ys : List ℕ} → at + w ≤ length s → ys ≡ bytes w x → put_mid at (at + w - at) s ys ≡ put w s at x
+unfolding put
+stored w s at x h e = let k : at + w - at ≡ w = omega arith in rw (k, e) (lent-splice s at w (bytes w x) h (length-bytes w x))
 
 -- ---- a pattern's exponent and fraction, by a shift and masks
 

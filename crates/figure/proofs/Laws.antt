@@ -1,17 +1,12 @@
 -- The outcome of both calls from what the reading over all time is: opening's refusal, 11 or 14, or the answer of a row. Assumes nothing.
+use Rattle.std.specs.Prelude.{Option, Some, None, Ok, Err}
 use Prim.Native.Nat.{ℕ, ◌-◌, ◌<◌}
 use mathlib.Core.Path.{◌≡◌, ap, ◌∙◌}
 use mathlib.Core.Bool.{Bool, false}
 use mathlib.Core.List.{List}
 use lib.ListN.{get_or, take, drop}
-use Rattle.model.specs.declared.End.{End}
 use Rattle.model.specs.declared.Point.{Point}
-use Rattle.model.specs.declared.LastPoint.{LastPoint}
-use Rattle.model.specs.declared.LastPoint.TheVariants.{Last, NoPoint}
-use Rattle.model.specs.declared.Panel.TheVariants as P
-use Rattle.model.specs.declared.Service.TheVariants as S
 use Rattle.model.specs.declared.Refusal.{Refusal}
-use Rattle.model.specs.declared.Queried.TheVariants as Q
 use Rattle.model.specs.Image.{row_at}
 use Rattle.model.specs.Ring.{oldest, newest}
 use Rattle.model.specs.Lent.{Lent}
@@ -37,12 +32,12 @@ module _ (l : Lent) (k c j : ℕ) {x : QueryReply} (e : x ≡ query l k c j 0 18
 
 -- ---- a refusal
 
-module _ (s : List ℕ) (bs : List Bool) (k c j : ℕ) (w : Refusal) (e : replied_by s (Q.Refused w) ≡ query (lent_by s bs) k c j 0 18446744073709551615) where
-  pub panel_refused : panel_reply (P.Refused w) ≡ panel (lent_by s bs) k c j
+module _ (s : List ℕ) (bs : List Bool) (k c j : ℕ) (w : Refusal) (e : replied_by s (Err w) ≡ query (lent_by s bs) k c j 0 18446744073709551615) where
+  pub panel_refused : panel_reply (Err w) ≡ panel (lent_by s bs) k c j
   unfolding replied_by panel_on panel_reply
   panel_refused = panel-by (lent_by s bs) k c j e
 
-  pub service_refused : service_reply (S.Refused w) ≡ service (lent_by s bs) k c j
+  pub service_refused : service_reply (Err w) ≡ service (lent_by s bs) k c j
   unfolding replied_by service_on service_reply
   service_refused = service-by (lent_by s bs) k c j e
 
@@ -68,17 +63,17 @@ module _ {s : List ℕ} {i from to n m d : ℕ} (h : SlabAt s i from to n m d) w
   column_in l = rw h.series-is l
 
   module _ (w : Bool) (c : ℕ) where
-    pub last-at : {p : LastPoint} → p ≡ ring_last (ring_of slab w) c → p ≡ ring_last (row_ring s i w) c
+    pub last-at : {p : Option Point} → p ≡ ring_last (ring_of slab w) c → p ≡ ring_last (row_ring s i w) c
     last-at e = e ∙ rw (part-is h)
 
     -- the service figure: without a point, and with one
-    pub none_served : {p : LastPoint} → p ≡ NoPoint → p ≡ ring_last (ring_of slab w) c
-        → service_reply S.Nothing ≡ served_point (ring_last (row_ring s i w) c) (oldest (row_ring s i w)) (newest (row_ring s i w))
+    pub none_served : {p : Option Point} → p ≡ None → p ≡ ring_last (ring_of slab w) c
+        → service_reply (Ok None) ≡ served_point (ring_last (row_ring s i w) c) (oldest (row_ring s i w)) (newest (row_ring s i w))
     unfolding service_reply served_point
     none_served none e = rw (← last-at e, none)
 
-    pub point_served : {p : LastPoint} {x : Point} {o y : End} → p ≡ Last x → p ≡ ring_last (ring_of slab w) c → o ≡ oldest (ring_of slab w) → y ≡ newest (ring_of slab w)
-        → service_reply (S.Gives (record { stamp = x.stamp; value = x.value; oldest = o; newest = y }))
+    pub point_served : {p : Option Point} {x : Point} {o y : Option ℕ} → p ≡ Some x → p ≡ ring_last (ring_of slab w) c → o ≡ oldest (ring_of slab w) → y ≡ newest (ring_of slab w)
+        → service_reply (Ok (Some (record { stamp = x.stamp; value = x.value; oldest = o; newest = y })))
         ≡ served_point (ring_last (row_ring s i w) c) (oldest (row_ring s i w)) (newest (row_ring s i w))
     unfolding service_reply served_point
     point_served some e f g = rw (← last-at e, some, ← part-is h, f, g)

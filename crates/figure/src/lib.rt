@@ -3,8 +3,8 @@
 // flags as one number, as they cross the edge to C, once opening's check has passed.
 #![tactic(auto)]
 
-ghost use Rattle.std.specs.Prelude.{◌≡◌, ◌<◌};
-ghost use Rattle.model.specs.Image.{row_at, row_count, open_check};
+ghost use Rattle.std.specs.Prelude.{◌≡◌, ◌<◌, Ok};
+ghost use Rattle.model.specs.Image.{row_at, row_count};
 ghost use Rattle.model.specs.Ring.{oldest, newest};
 ghost use Rattle.model.specs.Figure.{shown_point, served_point, panel_reply, service_reply, panel, service};
 ghost use Rattle.lookup.specs.Parts.{lent_of};
@@ -13,93 +13,90 @@ ghost use Rattle.tiers.specs.Reached.{row_ring};
 ghost use Rattle.figure_theory.specs.Back.{ring_last};
 
 // The last point of a row's column, the row's flag being `wrapped`.
-fn point_at(image: &[u8], row: usize, wrapped: bool, column: u32) -> model::LastPoint
-    requires image_value { open_check image.now ≡ 0 }
-    requires row_bound { (row < row_count image.now) × (column < (row_at image.now row).series) }
-    ensures { result ≡ ring_last (row_ring image.now row wrapped) column }
+fn point_at(image: &lookup::Image, row: usize, wrapped: bool, column: u32) -> Option<model::Point>
+    requires { (row < row_count image.now.bytes.now) × (column < (row_at image.now.bytes.now row).series) }
+    ensures { result ≡ ring_last (row_ring image.now.bytes.now row wrapped) column }
 {
-    let s = lookup::slab_at(image, row);
+    let s = image.slab_at(row);
     let from = s.from;
     let to = s.to;
-    let slab = &image[from..to];
     let z = s.sizes;
-    figure_point::last_point(slab, z.slots, z.series, column as usize, wrapped)
+    let slab = ring::Slab {
+        bytes: &image.bytes[from..to],
+        slots: z.slots,
+        series: z.series,
+    };
+    figure_point::last_point(&slab, column as usize, wrapped)
 }
 
 // The point on the panel.
-fn shown_point(last: model::LastPoint) -> model::Panel
+fn shown_point(last: Option<model::Point>) -> Result<Option<i64>, model::Refusal>
     ensures { panel_reply result ≡ shown_point last }
 {
     match last {
-        model::LastPoint::Last(p) => figure_value::panel_of(p.value),
-        model::LastPoint::NoPoint => model::Panel::Nothing,
+        Some(p) => figure_value::panel_of(p.value),
+        None => Ok(None),
     }
 }
 
 // The panel's figure, once opening's check has passed, with the flags as a number, of which one is read.
 pub fn panel_numbered(
-    image: &[u8],
+    image: &lookup::Image,
     flags: u32,
     handle: model::SeriesHandle,
     tier: u32,
-) -> model::Panel
-    requires { open_check image.now ≡ 0 }
-    ensures { panel_reply result ≡ panel (lent_at image.now flags) handle.schema handle.column tier }
+) -> Result<Option<i64>, model::Refusal>
+    ensures { panel_reply result ≡ panel (lent_at image.now.bytes.now flags) handle.schema handle.column tier }
 {
-    let target = query::seek(image, handle, tier, 0, figure_point::END_OF_TIME);
-    match target {
-        query::Sought::Row(row) => {
-            let wrapped = flag_bits::flag_at(flags, row);
-            let last = point_at(image, row, wrapped, handle.column);
-            shown_point(last)
-        }
-        query::Sought::Refused(r) => model::Panel::Refused(r),
-    }
+    let row = query::seek(image, handle, tier, 0, figure_point::END_OF_TIME)?;
+    let wrapped = flag_bits::flag_at(flags, row);
+    let last = point_at(image, row, wrapped, handle.column);
+    shown_point(last)
 }
 
-// The service figure of a row's column, the row's flag being `wrapped`.
-fn service_at(image: &[u8], row: usize, wrapped: bool, column: u32) -> model::Service
-    requires image_value { open_check image.now ≡ 0 }
-    requires row_bound { (row < row_count image.now) × (column < (row_at image.now row).series) }
-    ensures { service_reply result ≡ served_point (ring_last (row_ring image.now row wrapped) column) (oldest (row_ring image.now row wrapped)) (newest (row_ring image.now row wrapped)) }
+// The service figure of a row's column, the row's flag being `wrapped`. Not over `point_at`: the slab would be looked up twice.
+fn service_at(
+    image: &lookup::Image,
+    row: usize,
+    wrapped: bool,
+    column: u32,
+) -> Option<model::ServiceFigure>
+    requires { (row < row_count image.now.bytes.now) × (column < (row_at image.now.bytes.now row).series) }
+    ensures { service_reply (Ok result) ≡ served_point (ring_last (row_ring image.now.bytes.now row wrapped) column) (oldest (row_ring image.now.bytes.now row wrapped)) (newest (row_ring image.now.bytes.now row wrapped)) }
 {
-    let s = lookup::slab_at(image, row);
+    let s = image.slab_at(row);
     let from = s.from;
     let to = s.to;
-    let slab = &image[from..to];
     let z = s.sizes;
-    let last = figure_point::last_point(slab, z.slots, z.series, column as usize, wrapped);
-    let model::LastPoint::Last(p) = last else {
-        return model::Service::Nothing;
+    let slab = ring::Slab {
+        bytes: &image.bytes[from..to],
+        slots: z.slots,
+        series: z.series,
     };
-    let oldest = ring_ends::oldest(slab, z.slots, z.series, wrapped);
-    let newest = ring_ends::newest(slab, z.slots, z.series, wrapped);
-    model::Service::Gives(model::ServiceFigure {
+    let p = figure_point::last_point(&slab, column as usize, wrapped)?;
+    let oldest = ring_ends::oldest(&slab, wrapped);
+    let newest = ring_ends::newest(&slab, wrapped);
+    Some(model::ServiceFigure {
         stamp: p.stamp,
         value: p.value,
-        oldest: oldest,
-        newest: newest,
+        oldest,
+        newest,
     })
 }
 
 // The service figure, once opening's check has passed, with the flags as a number, of which one is read.
 pub fn service_numbered(
-    image: &[u8],
+    image: &lookup::Image,
     flags: u32,
     handle: model::SeriesHandle,
     tier: u32,
-) -> model::Service
-    requires { open_check image.now ≡ 0 }
-    ensures { service_reply result ≡ service (lent_at image.now flags) handle.schema handle.column tier }
+) -> Result<Option<model::ServiceFigure>, model::Refusal>
+    ensures { service_reply result ≡ service (lent_at image.now.bytes.now flags) handle.schema handle.column tier }
 {
-    let target = query::seek(image, handle, tier, 0, figure_point::END_OF_TIME);
-    match target {
-        query::Sought::Row(row) => {
-            let wrapped = flag_bits::flag_at(flags, row);
-            service_at(image, row, wrapped, handle.column)
-        }
-        query::Sought::Refused(r) => model::Service::Refused(r),
-    }
+    let row = query::seek(image, handle, tier, 0, figure_point::END_OF_TIME)?;
+    let wrapped = flag_bits::flag_at(flags, row);
+    let figure = service_at(image, row, wrapped, handle.column);
+    Ok(figure)
 }
 
 // The panel's figure of a series at a tier.
@@ -108,15 +105,12 @@ pub fn panel(
     flags: model::Flags,
     handle: model::SeriesHandle,
     tier: u32,
-) -> model::Panel
+) -> Result<Option<i64>, model::Refusal>
     ensures { panel_reply result ≡ panel (lent_of image.now flags) handle.schema handle.column tier }
 {
-    let opened = image_checked::check_image(image);
-    if let model::Outcome::Refused(why) = opened {
-        return model::Panel::Refused(why);
-    }
+    let image = lookup::Image::checked(image)?;
     let number = flag_bits::number_of(flags);
-    panel_numbered(image, number, handle, tier)
+    panel_numbered(&image, number, handle, tier)
 }
 
 // The service figure of a series at a tier.
@@ -125,13 +119,10 @@ pub fn service(
     flags: model::Flags,
     handle: model::SeriesHandle,
     tier: u32,
-) -> model::Service
+) -> Result<Option<model::ServiceFigure>, model::Refusal>
     ensures { service_reply result ≡ service (lent_of image.now flags) handle.schema handle.column tier }
 {
-    let opened = image_checked::check_image(image);
-    if let model::Outcome::Refused(why) = opened {
-        return model::Service::Refused(why);
-    }
+    let image = lookup::Image::checked(image)?;
     let number = flag_bits::number_of(flags);
-    service_numbered(image, number, handle, tier)
+    service_numbered(&image, number, handle, tier)
 }

@@ -1,12 +1,11 @@
 -- The last window that is due, and the last point: with a point for each window the last stands for the last. Assumes nothing.
-use Rattle.std.specs.Prelude.{ℕ, zero, suc, ◌+◌, ◌-◌, ◌*◌, ◌/◌, ◌<◌, min, ◌≢◌, Bool, true, false, not, ◌||◌, eqb}
+use Rattle.std.specs.Prelude.{ℕ, zero, suc, ◌+◌, ◌-◌, ◌*◌, ◌/◌, ◌<◌, min, ◌≢◌, Bool, true, false, not, ◌||◌, eqb, Some, None}
 use Rattle.std.proofs.Common.{arith, ap, ◌∙◌}
 use Rattle.std.proofs.Math.Path.{◌≡◌, refl}
 use Rattle.std.proofs.lemmas.Bool.{false≢true}
 use mathlib.Core.List.{List, [], ◌∷◌}
 use Rattle.std.specs.Float.Ieee.{binary64, of_bits}
 use Rattle.model.specs.declared.Point.{Point}
-use Rattle.model.specs.declared.LastPoint.TheVariants.{Last, NoPoint}
 use Rattle.model.specs.Figure.{last_after}
 use Rattle.demand.specs.Demand.{Sample, first_of, last_of, starts, begun, newest_windows, is_closed, in_window, sum_of, count, within, each}
 use Rattle.demand.specs.PanelBound.{last_start}
@@ -63,7 +62,7 @@ module _ (d c i k : ℕ) (xs : List Sample) where
       (closed_near (is_closed d i xs w) a u.1, u.2)
 
   last-from : (w : ℕ) (ws : List ℕ) (p : Point) (ps : List Point) → NearIn w p → each d c i k xs ws ps ≡ true
-      → (q : Point) × (last_after (Last p) ps ≡ Last q) × NearIn (last_start w ws) q
+      → (q : Point) × (last_after (Some p) ps ≡ Some q) × NearIn (last_start w ws) q
   unfolding last_after last_start
   last-from w [] p [] n h = (p, refl, n)
   last-from w [] p (q ∷ ps) n h = absurd (unfold each in (false≢true h))
@@ -72,7 +71,7 @@ module _ (d c i k : ℕ) (xs : List Sample) where
 
   -- points, one for each window of which there is one: the last is near the last window's mean
   pub last_near : (w : ℕ) (ws : List ℕ) (ps : List Point) → each d c i k xs (w ∷ ws) ps ≡ true
-      → (q : Point) × (last_after NoPoint ps ≡ Last q) × NearIn (last_start 0 (w ∷ ws)) q
+      → (q : Point) × (last_after None ps ≡ Some q) × NearIn (last_start 0 (w ∷ ws)) q
   unfolding last_after last_start
   last_near w ws [] h = absurd (unfold each in (false≢true h))
   last_near w ws (p ∷ ps) h = let u = each-parts w ws p ps h in last-from w ws p ps u.0 u.1

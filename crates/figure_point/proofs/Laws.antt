@@ -1,11 +1,11 @@
 -- The search backward, a slot at a time. Assumes nothing.
+use Rattle.std.specs.Prelude.{Some, None}
 use Prim.Native.Nat.{ℕ, zero, suc, ◌-◌, ◌≤◌, ◌<◌}
 use native.Mathlib.Omega.{arith}
 use mathlib.Core.Path.{◌≡◌, sym, ◌∙◌}
-use mathlib.Core.Bool.{true, false, not, ◌&&◌, and-false}
+use mathlib.Core.Bool.{true, false, ◌&&◌, and-false}
 use mathlib.Core.List.{List}
 use lib.Dec.{leb, ltb}
-use Rattle.model.specs.declared.LastPoint.TheVariants.{Last, NoPoint}
 use Rattle.model.specs.Ring.{stamp, cell, is_nan_bits}
 use Rattle.model.specs.Read.{is_handed}
 use Rattle.model.specs.Figure.{end_of_time}
@@ -40,7 +40,7 @@ module _ (s : List ℕ) (c n i k : ℕ) where
   unfolding back_from
   turn j e = rw e
 
-  pub back_there : 0 < k → is_handed s c 0 end_of_time i ≡ true → Last (record { stamp = stamp s i; value = cell s c i }) ≡ back_from s c n i k
+  pub back_there : 0 < k → is_handed s c 0 end_of_time i ≡ true → Some (record { stamp = stamp s i; value = cell s c i }) ≡ back_from s c n i k
   unfolding or_back
   back_there h e = sym (turn (k - 1) (omega arith) ∙ rw e)
 
@@ -48,7 +48,7 @@ module _ (s : List ℕ) (c n i k : ℕ) where
   unfolding or_back
   back_later h e = sym (turn (k - 1) (omega arith) ∙ rw e)
 
-  pub back_none : k ≡ 0 → NoPoint ≡ back_from s c n i k
+  pub back_none : k ≡ 0 → None ≡ back_from s c n i k
   unfolding back_from
   back_none e = rw e
 

@@ -3,7 +3,7 @@
 #![tactic(auto)]
 
 ghost use Rattle.std.specs.Prelude.{◌≡◌, ◌<◌};
-ghost use Rattle.ring.specs.Parts.{Sized, ring_of};
+ghost use Rattle.ring.specs.Parts.{ring_of};
 ghost use Rattle.figure_theory.specs.Back.{ring_last, slot_before, back_from};
 
 // The end of all time: a slot with this stamp is never handed out.
@@ -21,50 +21,37 @@ fn slot_before(n: usize, slot: usize) -> usize
 }
 
 // The first point going backward from a place.
-fn back_from(
-    slab: &[u8],
-    n: usize,
-    m: usize,
-    column: usize,
-    place: model::Place,
-) -> model::LastPoint
-    requires sized { Sized slab.now n m }
-    requires column_lt_m { (column < m) × (place.slot < n) }
-    ensures { result ≡ back_from slab.now column n place.slot place.left }
+fn back_from(slab: &ring::Slab, column: usize, place: model::Place) -> Option<model::Point>
+    requires { (column < slab.now.series) × (place.slot < slab.now.slots) }
+    ensures { result ≡ back_from slab.now.bytes.now column slab.now.slots place.slot place.left }
 {
     let mut slot = place.slot;
-    let mut left = place.left;
-    while 0 < left {
+    for _ in 0..place.left {
         let here = slot;
-        slot = slot_before(n, here);
-        left = left - 1;
-        let value = ring::cell_of(slab, n, m, column, here);
+        slot = slot_before(slab.slots, here);
+        let value = slab.cell(column, here);
         let nan = field::is_nan(value);
         if nan {
             continue;
         }
-        let stamp = ring::stamp_of(slab, n, m, here);
+        let stamp = slab.stamp(here);
         if stamp < END_OF_TIME {
-            return model::LastPoint::Last(model::Point {
-                stamp: stamp,
-                value: value,
-            });
+            return Some(model::Point { stamp, value });
         }
     }
-    model::LastPoint::NoPoint
+    None
 }
 
 // The last point of a column over all time.
-pub fn last_point(slab: &[u8], n: usize, m: usize, column: usize, wrapped: bool) -> model::LastPoint
-    requires sized { Sized slab.now n m }
-    requires column_lt_m { column < m }
-    ensures { result ≡ ring_last (ring_of slab.now wrapped) column }
+pub fn last_point(slab: &ring::Slab, column: usize, wrapped: bool) -> Option<model::Point>
+    requires { column < slab.now.series }
+    ensures { result ≡ ring_last (ring_of slab.now.bytes.now wrapped) column }
 {
-    let first = ring::first_place(slab, n, m, wrapped);
-    let cursor = ring::cursor_of(slab, n, m);
+    let first = slab.first_place(wrapped);
+    let cursor = slab.cursor();
     let place = model::Place {
         slot: cursor,
         left: first.left,
     };
-    back_from(slab, n, m, column, place)
+    back_from(slab, column, place)
 }

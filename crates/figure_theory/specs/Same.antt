@@ -1,6 +1,6 @@
 -- Two stores that agree in the last point's value show the same on the panel: `same-on-panel : SameOnPanel`. What is shown depends on the number alone, so not on
 -- how it is written nor on the sign of zero. Assumes nothing.
-use Rattle.std.specs.Prelude.{ℕ, ◌*◌, ◌<◌, ◌≡◌, refl, ◌≢◌, Bool, true, false, ◌&&◌, ◌||◌, cond, eqb, Float}
+use Rattle.std.specs.Prelude.{ℕ, ◌*◌, ◌<◌, ◌≡◌, refl, ◌≢◌, Bool, true, false, ◌&&◌, ◌||◌, cond, eqb, Float, Option, Some, None}
 use Rattle.std.proofs.Common.{zero-mul, arith, sym, ap, ◌∙◌}
 use Rattle.std.proofs.Math.Nat.{eq_of_mul-eq-mul_right}
 use Rattle.std.specs.Bool.{beq}
@@ -9,12 +9,11 @@ use Rattle.std.specs.Float.{nan, inf, fin, binary64}
 use Rattle.std.specs.Float.Ieee.{of_bits, eq, up, down}
 use Rattle.std.specs.Float.Ieee.Fits.{down_pos}
 use Rattle.std.specs.Float.Ieee.Nearest.{closest, closest_same}
-use Rattle.model.specs.declared.LastPoint.{LastPoint}
-use Rattle.model.specs.declared.LastPoint.TheVariants.{Last, NoPoint}
 use Rattle.model.specs.Query.{QueryReply, found, not_found}
 use Rattle.model.specs.Words.{signed}
 use Rattle.model.specs.Figure.{shows, not_shown, on_panel, nearest_whole, shown_value, shown_point, panel_on, last_on, reading, panel, agree, SameOnPanel}
 use Rattle.laws.specs.Tests.{and_left, and_right, eq_is}
+use Rattle.model.specs.declared.Point.{Point}
 
 -- ---- one number, one whole number
 
@@ -70,12 +69,12 @@ same_value x y h h' e = go (on_panel x) (on_panel y) (h 17) (h' 17)
     go true false f f' = absurd (f' refl)
     go false b f f' = absurd (f refl)
 
-same_point : (x y : LastPoint) → ((n : ℕ) → shown_point x ≢ not_shown n) → ((n : ℕ) → shown_point y ≢ not_shown n) → agree x y ≡ true → shown_point x ≡ shown_point y
+same_point : (x y : Option Point) → ((n : ℕ) → shown_point x ≢ not_shown n) → ((n : ℕ) → shown_point y ≢ not_shown n) → agree x y ≡ true → shown_point x ≡ shown_point y
 unfolding shown_point agree
-same_point NoPoint NoPoint h h' e = refl
-same_point NoPoint (Last q) h h' e = absurd (false≢true e)
-same_point (Last p) NoPoint h h' e = absurd (false≢true e)
-same_point (Last p) (Last q) h h' e = same_value (of_bits binary64 p.value) (of_bits binary64 q.value) h h' e
+same_point None None h h' e = refl
+same_point None (Some q) h h' e = absurd (false≢true e)
+same_point (Some p) None h h' e = absurd (false≢true e)
+same_point (Some p) (Some q) h h' e = same_value (of_bits binary64 p.value) (of_bits binary64 q.value) h h' e
 
 same-reading : (q r : QueryReply) → ((n : ℕ) → panel_on q ≢ not_shown n) → ((n : ℕ) → panel_on r ≢ not_shown n) → agree (last_on q) (last_on r) ≡ true → panel_on q ≡ panel_on r
 unfolding panel_on

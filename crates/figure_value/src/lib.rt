@@ -48,16 +48,16 @@ fn nearest_size(size: u64) -> u64
 }
 
 // A value on the panel.
-pub fn panel_of(bits: u64) -> model::Panel
+pub fn panel_of(bits: u64) -> Result<Option<i64>, model::Refusal>
     ensures { panel_reply result ≡ shown_value (of_bits binary64 bits) }
 {
     let size = bits % SIGN;
     if LIMIT < size {
-        return model::Panel::Refused(model::Refusal::OffPanel);
+        return Err(model::Refusal::OffPanel);
     }
     let whole = nearest_size(size) as i64;
     if bits < SIGN {
-        return model::Panel::Shows(whole);
+        return Ok(Some(whole));
     }
-    model::Panel::Shows(-whole)
+    Ok(Some(-whole))
 }

@@ -4,26 +4,17 @@
 ghost use Rattle.std.specs.Prelude.{◌≡◌, true, false, ◌<◌, ◌≤◌, get_or, set};
 ghost use Rattle.flag_bits.specs.Bits.{bits, bit_of, number};
 
-// The answer of a call, and the flags after it.
-#[derive(Clone, Copy)]
-pub struct Numbered {
-    pub outcome: model::Outcome,
-    pub flags: u32,
-}
-
 // The flags of a number: row i's is its bit i.
 pub fn flags_of(number: u32) -> model::Flags
     ensures { result.wrapped ≡ bits 32 number }
 {
     let mut wrapped = [false; 32];
     let mut rest = number;
-    let mut i = 0;
-    while i < 32 {
+    for i in 0..32 {
         wrapped[i] = rest % 2 == 1;
-        rest = rest / 2;
-        i += 1;
+        rest /= 2;
     }
-    model::Flags { wrapped: wrapped }
+    model::Flags { wrapped }
 }
 
 // A flag as a bit.
@@ -33,25 +24,15 @@ fn bit_of(flag: bool) -> u32
     if flag { 1 } else { 0 }
 }
 
-// The number of these flags, from the last to the first.
-fn number_in(wrapped: [bool; 32]) -> u32
-    ensures { (result ≡ number wrapped) × (bits 32 result ≡ wrapped) }
-{
-    let mut x = 0;
-    let mut i = 32;
-    while 0 < i {
-        i -= 1;
-        x = bit_of(wrapped[i]) + 2 * x;
-    }
-    x
-}
-
-// The number of these flags: `flags_of` gives them back.
+// The number of these flags, built from the last to the first: `flags_of` gives them back.
 pub fn number_of(flags: model::Flags) -> u32
     ensures { (result ≡ number flags.wrapped) × (bits 32 result ≡ flags.wrapped) }
 {
-    let wrapped = flags.wrapped;
-    number_in(wrapped)
+    let mut x = 0;
+    for flag in flags.wrapped.iter().rev() {
+        x = bit_of(*flag) + 2 * x;
+    }
+    x
 }
 
 // A row's flag.

@@ -1,5 +1,5 @@
 -- The ways through the checks of an image and of a plan: where each stops, and where it goes on. Assumes nothing.
-use Rattle.std.specs.Prelude.{ℕ, ◌+◌, ◌*◌, ◌-◌, ◌≤◌, ◌<◌, ◌≡◌, Bool, true, false, ◌&&◌, List, [], ◌∷◌, length, eqb, leb}
+use Rattle.std.specs.Prelude.{ℕ, ◌+◌, ◌*◌, ◌≤◌, ◌<◌, ◌≡◌, Bool, true, false, ◌&&◌, List, [], ◌∷◌, length, eqb, leb}
 use Rattle.std.proofs.Math.Path.{refl, sym}
 use Rattle.std.proofs.Common.{◌∙◌}
 use borrow.Author.Tests.{le-leb, lt-leb, leb-true}
@@ -67,15 +67,20 @@ module _ (s : List ℕ) where
   abbrev pub right : Bool
   right = eqb (total_length s) (image_length s) && placed (32 + 64 * row_count s) R && leb (image_length s) (length s)
 
-  -- the same by what code reads and works out
-  pub right_is : {n t l : ℕ} {p : Bool} → n ≡ get 4 s 12 → t ≡ get 8 s 16 → l ≡ image_length s → p ≡ placed (32 + 64 * n) (rows_to s n 0)
-      → right ≡ eqb t l && p && leb l (length s)
-  unfolding total_length row_count
-  right_is a b c d = rw (d, a, b, c)
+  -- the same by what code reads and works out, of a table of n rows in b
+  module _ {b : List ℕ} {n : ℕ} (is : b ≡ s) (count : n ≡ get 4 s 12) where
+    pub right_is : {t l : ℕ} {p : Bool} → t ≡ get 8 s 16 → l ≡ image_length s → p ≡ placed (32 + 64 * n) (rows_to b n 0)
+        → right ≡ eqb t l && p && leb l (length s)
+    unfolding total_length row_count
+    right_is f g h = rw (h, is, count, f, g)
 
-  pub ends_are : {n : ℕ} → n ≡ get 4 s 12 → slabs_end (32 + 64 * n) (rows_to s n 0) ≡ image_length s
-  unfolding row_count
-  ends_are a = rw a (sym length-is)
+    pub ends_are : slabs_end (32 + 64 * n) (rows_to b n 0) ≡ image_length s
+    unfolding row_count
+    ends_are = rw (is, count) (sym length-is)
+
+    pub sounds_are : {x : Bool} → x ≡ sound_all b (rows_to b n 0) → sound_all s R ≡ x
+    unfolding row_count
+    sounds_are f = rw (f, is, count)
 
   pub open_shape : shape s ≡ false → 1 ≡ open_check s
   unfolding open_check first unless

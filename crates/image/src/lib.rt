@@ -13,86 +13,77 @@ pub fn length_of(s: &[u8]) -> u64
     requires { shape s.now ≡ true }
     ensures { result ≡ capped (image_length s.now) }
 {
-    let n = field::get_u32(s, format::HEADER_ROWS);
-    layout::image_length(s, n as usize)
+    let table = rows::Table::of(s);
+    layout::image_length(&table)
 }
 
 // What creation and opening share after the shape: 2 to 7 schema by schema, then 8.
-fn check_layout(s: &[u8]) -> model::Outcome
+fn check_layout(s: &[u8]) -> Result<(), model::Refusal>
     requires { shape s.now ≡ true }
     ensures { outcome_no result ≡ layout_check tier_check s.now }
 {
     let k = field::get_u32(s, format::HEADER_SCHEMAS);
-    let n = field::get_u32(s, format::HEADER_ROWS);
-    let schemas = schema::check_schemas(s, n as usize, k);
-    let model::Outcome::Accepted = schemas else {
-        return schemas;
-    };
+    let table = rows::Table::of(s);
+    schema::check_schemas(&table, k)?;
     let l = length_of(s);
     if l > layout::LIMIT {
-        return model::Outcome::Refused(model::Refusal::LayoutTooLarge);
+        return Err(model::Refusal::LayoutTooLarge);
     }
-    model::Outcome::Accepted
+    Ok(())
 }
 
 // A plan: 1 to 8.
-pub fn check_plan(s: &[u8]) -> model::Outcome
+pub fn check_plan(s: &[u8]) -> Result<(), model::Refusal>
     ensures { outcome_no result ≡ plan_check s.now }
 {
     let shaped = rows::is_shaped(s);
     if !shaped {
-        return model::Outcome::Refused(model::Refusal::BadImage);
+        return Err(model::Refusal::BadImage);
     }
     let blank = rows::is_blank(s);
     if !blank {
-        return model::Outcome::Refused(model::Refusal::BadImage);
+        return Err(model::Refusal::BadImage);
     }
     check_layout(s)
 }
 
 // Each slab's header suits its row.
-fn slabs_sound(s: &[u8], n: usize) -> bool
-    requires n_in_bounds { 32 + 64 * n ≤ length s.now }
-    requires n_value { placed (32 + 64 * n) (rows_to s.now n 0) ≡ true }
-    requires n_in_bounds_2 { slabs_end (32 + 64 * n) (rows_to s.now n 0) ≤ length s.now }
-    ensures { result ≡ sound_all s.now (rows_to s.now n 0) }
+fn slabs_sound(table: &rows::Table) -> bool
+    requires placed { placed (32 + 64 * table.now.count) (rows_to table.now.bytes.now table.now.count 0) ≡ true }
+    requires ends_in { slabs_end (32 + 64 * table.now.count) (rows_to table.now.bytes.now table.now.count 0) ≤ length table.now.bytes.now }
+    ensures { result ≡ sound_all table.now.bytes.now (rows_to table.now.bytes.now table.now.count 0) }
 {
     let mut good = true;
-    let mut i = 0;
-    while i < n {
-        let r = rows::row_at(s, i);
+    for i in 0..table.count {
+        let r = table.row(i);
         let offset = r.offset as usize;
         let end = offset + (r.len as usize);
-        let one = slab_bytes::is_sound(&s[offset..end], r);
-        good = good & one;
-        i += 1;
+        let one = slab_bytes::is_sound(&table.bytes[offset..end], r);
+        good &= one;
     }
     good
 }
 
 // An image: 1 to 8, 1 again for total length, offsets, slab lengths and a short slice, then 10 by slab.
-pub fn check_image(s: &[u8]) -> model::Outcome
+pub fn check_image(s: &[u8]) -> Result<(), model::Refusal>
     ensures { outcome_no result ≡ open_check s.now }
 {
     let shaped = rows::is_shaped(s);
     if !shaped {
-        return model::Outcome::Refused(model::Refusal::BadImage);
+        return Err(model::Refusal::BadImage);
     }
-    let laid = check_layout(s);
-    let model::Outcome::Accepted = laid else {
-        return laid;
-    };
-    let n = field::get_u32(s, format::HEADER_ROWS) as usize;
+    check_layout(s)?;
+    let table = rows::Table::of(s);
     let total = field::get_u64(s, format::HEADER_TOTAL);
     let l = length_of(s);
-    let placed = layout::is_placed(s, n);
+    let placed = layout::is_placed(&table);
     let right = (total == l) & placed & (l <= (s.len() as u64));
     if !right {
-        return model::Outcome::Refused(model::Refusal::BadImage);
+        return Err(model::Refusal::BadImage);
     }
-    let sound = slabs_sound(s, n);
+    let sound = slabs_sound(&table);
     if !sound {
-        return model::Outcome::Refused(model::Refusal::CorruptedSlab);
+        return Err(model::Refusal::CorruptedSlab);
     }
-    model::Outcome::Accepted
+    Ok(())
 }

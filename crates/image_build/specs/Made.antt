@@ -159,15 +159,15 @@ module _ (p s : List ℕ) (fits : 32 ≤ length p) where
   unfolding bytes
   zeros t = put-splice 8 t 24 0
 
-  pub image_made : {n l : ℕ} {x1 x2 x3 x4 x5 : List ℕ} → image_length p ≤ length s → n ≡ get 4 p 12 → l ≡ image_length p → x1 ≡ splice s 0 (take 16 p) → x2 ≡ put 8 x1 16 l
-      → x3 ≡ put 8 x2 24 0 → x4 ≡ splice x3 32 (all_rows (placed_rows (32 + 64 * n) (rows_to p n 0))) → x5 ≡ splice x4 (32 + 64 * n) (fresh_slabs (rows_to p n 0))
+  pub image_made : {b : List ℕ} {n l : ℕ} {x1 x2 x3 x4 x5 : List ℕ} → image_length p ≤ length s → b ≡ p → n ≡ get 4 p 12 → l ≡ image_length p → x1 ≡ splice s 0 (take 16 p) → x2 ≡ put 8 x1 16 l
+      → x3 ≡ put 8 x2 24 0 → x4 ≡ splice x3 32 (all_rows (placed_rows (32 + 64 * n) (rows_to b n 0))) → x5 ≡ splice x4 (32 + 64 * n) (fresh_slabs (rows_to b n 0))
       → x5 ≡ fresh_image p ++ drop (image_length p) s
-  image_made {x2 = x2} h en el e1 e2 e3 e4 e5 =
+  image_made {x2 = x2} h is en el e1 e2 e3 e4 e5 =
       let head : Front s _ (take 16 p) 16 = record { is = e1; long = head-long } in
       let to_length = front_field 8 (image_length p) head (rw el at e2) in
       let header = front_part (replicate 8 0) to_length (length-replicate {A = ℕ} 8 0) (e3 ∙ zeros x2) in
-      let to_rows = front_part placed header placed-long (rw en at e4) in
-      let all = front_part (fresh_slabs R) to_rows refl (rw en at e5) in
+      let to_rows = front_part placed header placed-long (rw (is, en) at e4) in
+      let all = front_part (fresh_slabs R) to_rows refl (rw (is, en) at e5) in
       let f : length parts ≤ length s = omega (arith, parts-long) in
       let e : splice s 0 parts ≡ fresh_image p ++ drop (image_length p) s = splice_front s parts f ∙ rw (parts-long, fresh-is) in
       all.is ∙ e

@@ -44,42 +44,41 @@ fn placed_row(r: model::Row, at: u64, len: u64) -> model::Row
         function: r.function,
         series: r.series,
         offset: at,
-        len: len,
+        len,
         mark: 0,
         hash: r.hash,
     }
 }
 
 // The rows.
-fn put_rows(plan: &[u8], n: usize, image: &mut [u8])
-    requires n_bound { (n ≤ 32) × (32 + 64 * n ≤ length plan.now) }
-    requires n_bound_2 { (slabs_end (32 + 64 * n) (rows_to plan.now n 0) ≤ 1099511627776) × (32 + 64 * n ≤ length image.old) }
-    ensures { image.new ≡ splice image.old 32 (all_rows (placed_rows (32 + 64 * n) (rows_to plan.now n 0))) }
+fn put_rows(plan: &rows::Table, image: &mut [u8])
+    requires few { plan.now.count ≤ 32 }
+    requires ends_low { slabs_end (32 + 64 * plan.now.count) (rows_to plan.now.bytes.now plan.now.count 0) ≤ 1099511627776 }
+    requires rows_in { 32 + 64 * plan.now.count ≤ length image.old }
+    ensures { image.new ≡ splice image.old 32 (all_rows (placed_rows (32 + 64 * plan.now.count) (rows_to plan.now.bytes.now plan.now.count 0))) }
 {
-    let mut at: u64 = format::HEADER as u64 + format::ROW as u64 * (n as u64);
-    let mut i = 0;
-    while i < n {
-        let r = rows::row_at(plan, i);
+    let mut at: u64 = format::HEADER as u64 + format::ROW as u64 * (plan.count as u64);
+    for i in 0..plan.count {
+        let r = plan.row(i);
         let len = layout::row_length(r);
         let q = placed_row(r, at, len);
         let from = format::HEADER + format::ROW * i;
         let end = from + format::ROW;
         put_row(&mut image[from..end], q);
-        at = at + len;
-        i += 1;
+        at += len;
     }
 }
 
 // The slabs.
-fn put_slabs(plan: &[u8], n: usize, image: &mut [u8])
-    requires n_bound { (n ≤ 32) × (32 + 64 * n ≤ length plan.now) }
-    requires n_bound_2 { (slabs_end (32 + 64 * n) (rows_to plan.now n 0) ≤ 1099511627776) × (slabs_end (32 + 64 * n) (rows_to plan.now n 0) ≤ length image.old) }
-    ensures { image.new ≡ splice image.old (32 + 64 * n) (fresh_slabs (rows_to plan.now n 0)) }
+fn put_slabs(plan: &rows::Table, image: &mut [u8])
+    requires few { plan.now.count ≤ 32 }
+    requires ends_low { slabs_end (32 + 64 * plan.now.count) (rows_to plan.now.bytes.now plan.now.count 0) ≤ 1099511627776 }
+    requires ends_in { slabs_end (32 + 64 * plan.now.count) (rows_to plan.now.bytes.now plan.now.count 0) ≤ length image.old }
+    ensures { image.new ≡ splice image.old (32 + 64 * plan.now.count) (fresh_slabs (rows_to plan.now.bytes.now plan.now.count 0)) }
 {
-    let mut at = format::HEADER + format::ROW * n;
-    let mut i = 0;
-    while i < n {
-        let r = rows::row_at(plan, i);
+    let mut at = format::HEADER + format::ROW * plan.count;
+    for i in 0..plan.count {
+        let r = plan.row(i);
         let slots = layout::row_slots(r);
         let len = layout::row_length(r);
         let end = at + (len as usize);
@@ -91,7 +90,6 @@ fn put_slabs(plan: &[u8], n: usize, image: &mut [u8])
             r.interval,
         );
         at = end;
-        i += 1;
     }
 }
 
@@ -100,11 +98,7 @@ fn copy_head(plan: &[u8], image: &mut [u8])
     requires { (16 ≤ length plan.now) × (16 ≤ length image.old) }
     ensures { image.new ≡ splice image.old 0 (take 16 plan.now) }
 {
-    let mut i = 0;
-    while i < format::HEADER_TOTAL {
-        image[i] = plan[i];
-        i += 1;
-    }
+    image[..format::HEADER_TOTAL].copy_from_slice(&plan[..format::HEADER_TOTAL]);
 }
 
 // The fresh image of a plan that passed, at the start of a slice that is long enough.
@@ -113,11 +107,11 @@ pub fn put_image(plan: &[u8], image: &mut [u8])
     requires plan_bound { (image_length plan.now ≤ 1099511627776) × (image_length plan.now ≤ length image.old) }
     ensures { image.new ≡ fresh_image plan.now ++ drop (image_length plan.now) image.old }
 {
-    let n = field::get_u32(plan, format::HEADER_ROWS) as usize;
+    let table = rows::Table::of(plan);
     let len = image::length_of(plan);
     copy_head(plan, image);
     field::put_u64(image, format::HEADER_TOTAL, len);
     field::put_u64(image, format::HEADER_ZERO, 0);
-    put_rows(plan, n, image);
-    put_slabs(plan, n, image);
+    put_rows(&table, image);
+    put_slabs(&table, image);
 }

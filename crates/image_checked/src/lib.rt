@@ -7,12 +7,12 @@ ghost use Rattle.model.specs.Words.{outcome_no};
 ghost use Rattle.model.specs.Image.{open_check};
 
 // An image: accepted, or refused as the plain check says.
-pub fn check_image(s: &[u8]) -> model::Outcome
+pub fn check_image(s: &[u8]) -> Result<(), model::Refusal>
     ensures { outcome_no result ≡ open_check s.now }
 {
     let number = image_quick::check(s);
     if number == 0 {
-        return model::Outcome::Accepted;
+        return Ok(());
     }
     image::check_image(s)
 }

@@ -1,5 +1,5 @@
 -- What each part of the quick pass has seen when it says "good", in terms of what it reads; and that all parts together are a pass. Assumes nothing.
-use Rattle.std.specs.Prelude.{◌≡◌, ℕ, zero, suc, ◌+◌, ◌*◌, ◌/◌, ◌^◌, ◌<◌, ◌≤◌, List, length, slice_index}
+use Rattle.std.specs.Prelude.{◌≡◌, ℕ, zero, suc, ◌+◌, ◌*◌, ◌/◌, ◌^◌, ◌<◌, ◌≤◌, List, length, slice_index, Option, Some, None}
 use Rattle.std.proofs.Common.{mul-le-mul_right, le-div_iff_mul-le, div-lt_iff_lt-mul, add-one, ◌∙◌, inl, inr}
 use native.Mathlib.Omega.{arith}
 use Rattle.std.proofs.Math.Decide.{ℕ_discrete}
@@ -13,8 +13,6 @@ use Rattle.laws.specs.Bytes.{get-part, get-suc}
 use Rattle.image_theory.specs.Checks.{Suits}
 use Rattle.image_theory.specs.Good.{slab_start, start_suc}
 use Rattle.image_quick.specs.declared.Shared.{Shared}
-use Rattle.image_quick.specs.declared.Step.{Step}
-use Rattle.image_quick.specs.declared.Step.TheVariants as S
 use Rattle.image_quick.specs.Pass.{RowGood, Joins, Start, opens}
 
 -- w is the two numbers that stand side by side at o
@@ -42,17 +40,17 @@ pub record Known (s : List ℕ) (i : ℕ) (p : Shared) : Type 0 where
   pub function_low : (row_at s i).function ≤ 6
 
 -- what a step that is good promises
-abbrev pub IfGood : (Shared → Type 0) → Step → Type 0
-IfGood P (S.Good q) = P q
-IfGood P (S.Bad) = Unit {0}
+abbrev pub IfGood : (Shared → Type 0) → Option Shared → Type 0
+IfGood P (Some q) = P q
+IfGood P (None) = Unit {0}
 
-pub good-is : (P : Shared → Type 0) {x : Step} {q : Shared} → x ≡ S.Good q → IfGood P x → P q
+pub good-is : (P : Shared → Type 0) {x : Option Shared} {q : Shared} → x ≡ Some q → IfGood P x → P q
 good-is P e h = rw e at h
 
 -- and what follows from it
-pub good-map : (P Q : Shared → Type 0) → ((q : Shared) → P q → Q q) → (x : Step) → IfGood P x → IfGood Q x
-good-map P Q f (S.Good q) h = f q h
-good-map P Q f (S.Bad) h = h
+pub good-map : (P Q : Shared → Type 0) → ((q : Shared) → P q → Q q) → (x : Option Shared) → IfGood P x → IfGood Q x
+good-map P Q f (Some q) h = f q h
+good-map P Q f (None) h = h
 
 -- row i is the first of schema k
 pub record Begun (s : List ℕ) (i k : ℕ) (p : Shared) : Type 0 where

@@ -76,29 +76,22 @@ pub struct Shared {
     hash: u64,
 }
 
-// A row may stand where it does, and this is what it shares; or it may not.
-#[derive(Clone, Copy)]
-pub enum Step {
-    Good(Shared),
-    Bad,
-}
-
 // Row i is the first of schema k.
-fn starts(s: &[u8], i: usize, k: u64) -> Step
+fn starts(s: &[u8], i: usize, k: u64) -> Option<Shared>
     requires { (32 + 64 * i + 64 ≤ length s.now) × (k < 4294967296) }
     ensures { IfGood (Begun s.now i k) result }
 {
     let at = format::HEADER + format::ROW * i;
     let w = two_u32(s, at);
     if w != k {
-        return Step::Bad;
+        return None;
     }
     if field::get_u32(s, at + format::ROW_FUNCTION) != 0 {
-        return Step::Bad;
+        return None;
     }
     let m = field::get_u32(s, at + format::ROW_SERIES);
     if m == 0 {
-        return Step::Bad;
+        return None;
     }
     let hash = field::get_u64(s, at + format::ROW_HASH);
     let p = Shared {
@@ -106,11 +99,11 @@ fn starts(s: &[u8], i: usize, k: u64) -> Step
         high: 0x1_0000_0000 * m,
         hash: hash,
     };
-    Step::Good(p)
+    Some(p)
 }
 
 // Row i + 1 shares what row i shares, and has a longer interval.
-fn follows(s: &[u8], i: usize, p: Shared) -> Step
+fn follows(s: &[u8], i: usize, p: Shared) -> Option<Shared>
     requires { (32 + 64 * i + 128 ≤ length s.now) × Known s.now i p }
     ensures { IfGood (Followed s.now i) result }
 {
@@ -118,19 +111,19 @@ fn follows(s: &[u8], i: usize, p: Shared) -> Step
     let x = two_u32(s, at + NEXT_FUNCTION);
     let function = std::num::wrapping_sub_u64(x, p.high);
     if function > FUNCTIONS {
-        return Step::Bad;
+        return None;
     }
     if field::get_u64(s, at + NEXT_HASH) != p.hash {
-        return Step::Bad;
+        return None;
     }
     if field::get_u64(s, at + format::ROW_INTERVAL) >= field::get_u64(s, at + NEXT_INTERVAL) {
-        return Step::Bad;
+        return None;
     }
-    Step::Good(p)
+    Some(p)
 }
 
 // Row i + 1 may stand right after row i: as the next tier, or as the first row of the next schema.
-fn joins(s: &[u8], i: usize, p: Shared) -> Step
+fn joins(s: &[u8], i: usize, p: Shared) -> Option<Shared>
     requires { (32 + 64 * i + 128 ≤ length s.now) × (i ≤ 32) × Early s.now i × Known s.now i p }
     ensures { IfGood (Joined s.now i) result }
 {
@@ -145,13 +138,13 @@ fn joins(s: &[u8], i: usize, p: Shared) -> Step
 }
 
 // Row i + 1 may stand right after row i as the next tier, where all rows are of schema 0.
-fn next_tier(s: &[u8], i: usize, p: Shared) -> Step
+fn next_tier(s: &[u8], i: usize, p: Shared) -> Option<Shared>
     requires { (32 + 64 * i + 128 ≤ length s.now) × (i ≤ 32) × Only s.now i × Known s.now i p }
     ensures { IfGood (NextTier s.now i) result }
 {
     let x = two_u32(s, SECOND + format::ROW * i);
     if x != 0x1_0000_0000 * (i as u64 + 1) {
-        return Step::Bad;
+        return None;
     }
     follows(s, i, p)
 }
@@ -234,20 +227,28 @@ fn place_good(s: &[u8], i: usize, at: usize, p: Shared) -> bool
     slab_good(s, at, r, p)
 }
 
-// The first of n rows is the first of schema 0, and its slab stands right behind them.
-fn begins(s: &[u8], n: usize) -> Step
-    requires { (n < 4294967296) × (96 + 64 * n ≤ length s.now) }
-    ensures { IfGood (Begins s.now (32 + 64 * n)) result }
+// An image by its header: `count` rows, and room for a slab's header behind them up to `total`, where the image ends.
+#[derive(Clone, Copy)]
+struct Span<'a> {
+    bytes: &'a [u8],
+    count: usize,
+    total: usize,
+    ghost counted: { count ≡ row_count bytes.now },
+    ghost room: { 96 + 64 * count ≤ total },
+    ghost inside: { total ≤ length bytes.now },
+    ghost low: { total ≤ 1099511627776 },
+}
+
+// The first row is the first of schema 0, and its slab stands right behind the rows.
+fn begins(span: &Span) -> Option<Shared>
+    ensures { IfGood (Begins span.now.bytes.now (32 + 64 * span.now.count)) result }
 {
-    let first = starts(s, 0, 0);
-    let Step::Good(p) = first else {
-        return Step::Bad;
-    };
-    let here = place_good(s, 0, format::HEADER + format::ROW * n, p);
+    let p = starts(span.bytes, 0, 0)?;
+    let here = place_good(span.bytes, 0, format::HEADER + format::ROW * span.count, p);
     if !here {
-        return Step::Bad;
+        return None;
     }
-    Step::Good(p)
+    Some(p)
 }
 
 // The last row, i, is of the last schema.
@@ -263,57 +264,27 @@ fn ends(s: &[u8], i: usize) -> bool
     schemas == last + 1
 }
 
-// The n rows, the first of which is good, each join the row before, from schema 0 to the last, and their slabs stand one behind the other, up to `total`.
-fn rows_good(s: &[u8], n: usize, total: usize, first: Shared) -> bool
-    requires n_nonzero { (0 < n) × (n ≤ 32) × (n ≡ row_count s.now) × (96 + 64 * n ≤ total) × (total ≤ length s.now) × (total ≤ 1099511627776) }
-    requires begins { Begins s.now (32 + 64 * n) first }
-    ensures { result ≡ true → All s.now n total }
+// The rows, the first of which is good, each join the row before, from schema 0 to the last, and their slabs stand one behind the other, up to `total`.
+fn rows_good(span: &Span, first: Shared) -> bool
+    requires counted { Counted span.now.count }
+    requires begins { Begins span.now.bytes.now (32 + 64 * span.now.count) first }
+    ensures { result ≡ true → All span.now.bytes.now span.now.count span.now.total }
 {
+    let Span {
+        bytes: s,
+        count: n,
+        total,
+    } = *span;
     let last = total - format::SLAB_HEADER;
     let mut p = first;
     let mut at = format::HEADER + format::ROW * n;
-    let mut i = 0;
-    let mut here = true;
-    while here {
+    for i in 0..n - 1 {
         at += field::get_u64(s, FIRST_LENGTH + format::ROW * i) as usize;
-        if i + 1 == n {
-            let ended = ends(s, i);
-            return ended & (at == total);
-        }
         if at > last {
             return false;
         }
         let next = joins(s, i, p);
-        let Step::Good(q) = next else {
-            return false;
-        };
-        p = q;
-        i += 1;
-        here = place_good(s, i, at, p);
-    }
-    false
-}
-
-// The n rows, at most four, the first of which is good, are the tiers of the only schema, and their slabs stand one behind the other, up to `total`. The loop's
-// turns are so few that the compiler writes them out.
-fn few_good(s: &[u8], n: usize, total: usize, first: Shared) -> bool
-    requires n_nonzero { (0 < n) × (n ≤ 4) × (n ≡ row_count s.now) × (96 + 64 * n ≤ total) × (total ≤ length s.now) × (total ≤ 1099511627776) }
-    requires begins { Begins s.now (32 + 64 * n) first × (schemas s.now ≡ 1) }
-    ensures { result ≡ true → All s.now n total }
-{
-    let top = total - format::SLAB_HEADER;
-    let mut p = first;
-    let mut at = format::HEADER + format::ROW * n + field::get_u64(s, FIRST_LENGTH) as usize;
-    let mut i = 0;
-    while i < 3 {
-        if i + 1 == n {
-            return at == total;
-        }
-        if at > top {
-            return false;
-        }
-        let next = next_tier(s, i, p);
-        let Step::Good(q) = next else {
+        let Some(q) = next else {
             return false;
         };
         p = q;
@@ -321,25 +292,60 @@ fn few_good(s: &[u8], n: usize, total: usize, first: Shared) -> bool
         if !here {
             return false;
         }
-        i += 1;
-        at += field::get_u64(s, FIRST_LENGTH + format::ROW * i) as usize;
+    }
+    at += field::get_u64(s, FIRST_LENGTH + format::ROW * (n - 1)) as usize;
+    let ended = ends(s, n - 1);
+    ended & (at == total)
+}
+
+// The rows, at most four, the first of which is good, are the tiers of the only schema, and their slabs stand one behind the other, up to `total`. The loop's
+// turns are so few that the compiler writes them out.
+fn few_good(span: &Span, first: Shared) -> bool
+    requires few { (0 < span.now.count) × (span.now.count ≤ 4) }
+    requires begins { Begins span.now.bytes.now (32 + 64 * span.now.count) first × (schemas span.now.bytes.now ≡ 1) }
+    ensures { result ≡ true → All span.now.bytes.now span.now.count span.now.total }
+{
+    let Span {
+        bytes: s,
+        count: n,
+        total,
+    } = *span;
+    let top = total - format::SLAB_HEADER;
+    let mut p = first;
+    let mut at = format::HEADER + format::ROW * n + field::get_u64(s, FIRST_LENGTH) as usize;
+    for i in 0..3 {
+        if i + 1 == n {
+            return at == total;
+        }
+        if at > top {
+            return false;
+        }
+        let next = next_tier(s, i, p);
+        let Some(q) = next else {
+            return false;
+        };
+        p = q;
+        let here = place_good(s, i + 1, at, p);
+        if !here {
+            return false;
+        }
+        at += field::get_u64(s, FIRST_LENGTH + format::ROW * (i + 1)) as usize;
     }
     at == total
 }
 
-// The n rows, the first of which is good, whatever their number and their schemas.
-fn many_good(s: &[u8], n: usize, total: usize, first: Shared) -> bool
-    requires n_value { (n ≡ row_count s.now) × (96 + 64 * n ≤ total) × (total ≤ length s.now) × (total ≤ 1099511627776) }
-    requires begins { Begins s.now (32 + 64 * n) first }
-    ensures { result ≡ true → Counted n × All s.now n total }
+// The rows, the first of which is good, whatever their number and their schemas.
+fn many_good(span: &Span, first: Shared) -> bool
+    requires { Begins span.now.bytes.now (32 + 64 * span.now.count) first }
+    ensures { result ≡ true → Counted span.now.count × All span.now.bytes.now span.now.count span.now.total }
 {
-    if n == 0 {
+    if span.count == 0 {
         return false;
     }
-    if n > format::ROWS as usize {
+    if span.count > format::ROWS as usize {
         return false;
     }
-    rows_good(s, n, total, first)
+    rows_good(span, first)
 }
 
 // All good: opening's check passes. Whether the rows are one to four is asked before their number's bounds, which it has then.
@@ -352,19 +358,24 @@ fn is_good(s: &[u8]) -> bool
     }
     let n = field::get_u32(s, format::HEADER_ROWS) as usize;
     let total = field::get_u64(s, format::HEADER_TOTAL) as usize;
-    let begun = begins(s, n);
-    let Step::Good(first) = begun else {
+    let span = Span {
+        bytes: s,
+        count: n,
+        total,
+    };
+    let begun = begins(&span);
+    let Some(first) = begun else {
         return false;
     };
     if 0 < n {
         if n <= 4 {
             let schemas = field::get_u32(s, format::HEADER_SCHEMAS);
             if schemas == 1 {
-                return few_good(s, n, total, first);
+                return few_good(&span, first);
             }
         }
     }
-    many_good(s, n, total, first)
+    many_good(&span, first)
 }
 
 // What the plain check says, by its number. A function of its own: written out in `check`, the compiler copies the slice there by a load of 16 bytes right

@@ -3,13 +3,11 @@
 use Prim.Native.Nat.{ℕ, zero, suc, ◌+◌, ◌-◌, ◌^◌, ◌≤◌, ◌<◌}
 use Rattle.std.proofs.Common.{arith, ◌∙◌, subst}
 use Rattle.std.proofs.Math.Decide.{ℕ_discrete}
-use Rattle.std.specs.Prelude.{◌≡◌, Bool, ◌&&◌, length}
+use Rattle.std.specs.Prelude.{◌≡◌, Bool, ◌&&◌, length, Option, Some, None}
 use Rattle.std.proofs.Math.Path.{refl}
 use Rattle.std.proofs.Math.Bool.{true, false}
 use mathlib.Core.List.{List, [], ◌∷◌}
 use Rattle.std.proofs.Math.Dec.{ltb, eqb}
-use Rattle.model.specs.declared.TierFn.{TierFn}
-use Rattle.model.specs.declared.TierFn.TheVariants.{None, Some}
 use Rattle.model.specs.declared.ConsolidationFn.{ConsolidationFn}
 use Rattle.model.specs.declared.WindowAnswer.{WindowAnswer}
 use Rattle.model.specs.declared.WindowAnswer.TheVariants.{Empty, Number, NothingFinite}
@@ -146,7 +144,7 @@ module _ (l : Lent) (g : Good l.image) (i : ℕ) (hi : suc i < row_count l.image
   unfolding pair
   stays_pair c n = go (function_no (row l (suc i)).function)
     where
-      go : (f : TierFn) → Stays l (pair_by f (record { lent = l; count = c; refusal = n }) i).lent
+      go : (f : Option ConsolidationFn) → Stays l (pair_by f (record { lent = l; count = c; refusal = n }) i).lent
       go None = unfold pair_by refuse_run in (stays_same l g)
       go (Some f) = unfold pair_by in (stays_with (stamps_below (ring l i).slab 0 (slots (ring l i).slab)) f c n refl)
 

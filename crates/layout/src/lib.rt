@@ -52,40 +52,36 @@ pub fn row_length(r: model::Row) -> u64
     slab_length(n, r.series as u64)
 }
 
-// The length of the image with these n rows.
-pub fn image_length(s: &[u8], n: usize) -> u64
-    requires { (n ≤ 32) × (32 + 64 * n ≤ length s.now) }
-    ensures { result ≡ capped (slabs_end (32 + 64 * n) (rows_to s.now n 0)) }
+// The length of the image with these rows.
+pub fn image_length(table: &rows::Table) -> u64
+    requires { table.now.count ≤ 32 }
+    ensures { result ≡ capped (slabs_end (32 + 64 * table.now.count) (rows_to table.now.bytes.now table.now.count 0)) }
 {
-    let mut at: u64 = format::HEADER as u64 + format::ROW as u64 * (n as u64);
-    let mut i = 0;
-    while i < n {
-        let r = rows::row_at(s, i);
+    let mut at: u64 = format::HEADER as u64 + format::ROW as u64 * (table.count as u64);
+    for i in 0..table.count {
+        let r = table.row(i);
         let l = row_length(r);
         if l > LIMIT - at {
             return TOO_LONG;
         }
-        at = at + l;
-        i += 1;
+        at += l;
     }
     at
 }
 
 // Each row's offset and slab length are the right ones.
-pub fn is_placed(s: &[u8], n: usize) -> bool
-    requires n_bound { (n ≤ 32) × (32 + 64 * n ≤ length s.now) }
-    requires n_bound_2 { slabs_end (32 + 64 * n) (rows_to s.now n 0) ≤ 1099511627776 }
-    ensures { result ≡ placed (32 + 64 * n) (rows_to s.now n 0) }
+pub fn is_placed(table: &rows::Table) -> bool
+    requires few { table.now.count ≤ 32 }
+    requires ends_low { slabs_end (32 + 64 * table.now.count) (rows_to table.now.bytes.now table.now.count 0) ≤ 1099511627776 }
+    ensures { result ≡ placed (32 + 64 * table.now.count) (rows_to table.now.bytes.now table.now.count 0) }
 {
     let mut good = true;
-    let mut at: u64 = format::HEADER as u64 + format::ROW as u64 * (n as u64);
-    let mut i = 0;
-    while i < n {
-        let r = rows::row_at(s, i);
+    let mut at: u64 = format::HEADER as u64 + format::ROW as u64 * (table.count as u64);
+    for i in 0..table.count {
+        let r = table.row(i);
         let l = row_length(r);
-        good = good & ((r.offset == at) & (r.len == l));
-        at = at + l;
-        i += 1;
+        good &= (r.offset == at) & (r.len == l);
+        at += l;
     }
     good
 }

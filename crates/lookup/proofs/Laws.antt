@@ -1,5 +1,6 @@
 -- What a passed check tells of the places that the code reads: a row within the slice, its slab with its sizes, as a part of the image; and the search for a schema's first row, one
 -- turn at a time. Assumes nothing.
+use Rattle.std.specs.Prelude.{Some, None}
 use Prim.Native.Nat.{ℕ, zero, suc, ◌+◌, ◌-◌, ◌*◌, ◌≤◌, ◌<◌}
 use native.Mathlib.Nat.{add-zero, zero-add, sub-zero}
 use native.Mathlib.Numerals.{add-one}
@@ -24,7 +25,6 @@ use Rattle.ring.specs.Parts.{Sized, sized}
 use Rattle.image_theory.specs.Good.{Good, good_open, inside_slice, length-slab, slab-sound, tier_of_lem}
 use Rattle.lookup.specs.Parts.{SlabAt, finest_of}
 use Rattle.lookup.specs.Handle.{first_there, series_there}
-use Rattle.lookup.specs.declared.Finest.TheVariants.{At, Missing}
 
 module _ (s : List ℕ) (h : open_check s ≡ 0) where
   g : Good s
@@ -162,11 +162,11 @@ module _ (s : List ℕ) (h : open_check s ≡ 0) (k c : ℕ) where
 
   -- with the schema's first row i
   module _ (i : ℕ) (e : i ≡ first_row k (rows s)) where
-    pub finest_none : row_count s ≤ i → finest_of s k c ≡ Missing
+    pub finest_none : row_count s ≤ i → finest_of s k c ≡ None
     unfolding finest_of
     finest_none l = go (ltb k (schemas s)) refl
       where
-        go : (b : Bool) → ltb k (schemas s) ≡ b → cond (b && ltb c (series_of (tiers_of k (rows s)))) (At (first_row k (rows s))) Missing ≡ Missing
+        go : (b : Bool) → ltb k (schemas s) ≡ b → cond (b && ltb c (series_of (tiers_of k (rows s)))) (Some (first_row k (rows s))) None ≡ None
         go true p = absurd (omega (arith, first_there s h k (lt-is k (schemas s) p)))
         go false p = refl
 
@@ -179,10 +179,10 @@ module _ (s : List ℕ) (h : open_check s ≡ 0) (k c : ℕ) where
       unfolding row_at
       series-is = series_there s h k low ∙ rw (f, e)
 
-      pub finest_wide : m ≤ c → finest_of s k c ≡ Missing
+      pub finest_wide : m ≤ c → finest_of s k c ≡ None
       unfolding finest_of
       finest_wide w = rw (yes_lt k (schemas s) low, series-is, no_lt c m w)
 
-      pub finest-at : c < m → finest_of s k c ≡ At i
+      pub finest-at : c < m → finest_of s k c ≡ Some i
       unfolding finest_of
       finest-at w = rw (yes_lt k (schemas s) low, series-is, yes_lt c m w, e)

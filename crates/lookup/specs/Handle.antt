@@ -1,6 +1,6 @@
 -- What the row of a handle's finest tier says: whether the handle is within bounds, and, on an image that passes opening's check, that the row is there and has
 -- the column; whether its ring takes a stamp. Assumes nothing.
-use Rattle.std.specs.Prelude.{ℕ, ◌<◌, ◌≡◌, Bool, not, ◌&&◌, List}
+use Rattle.std.specs.Prelude.{ℕ, ◌<◌, ◌≡◌, Bool, not, ◌&&◌, List, Some, None}
 use Rattle.std.proofs.Common.{add-zero}
 use Rattle.std.proofs.Math.Path.{refl}
 use Rattle.std.proofs.Math.Bool.{true, false, cond}
@@ -13,7 +13,6 @@ use Rattle.laws.specs.Tests.{lt-is, and_left, and_right}
 use Rattle.image_theory.specs.Good.{good_open}
 use Rattle.image_theory.specs.Tiers.{TierRow, tier-row, some_tier}
 use Rattle.lookup.specs.Parts.{finest_of}
-use Rattle.lookup.specs.declared.Finest.TheVariants.{At, Missing}
 
 module _ (s : List ℕ) (h : open_check s ≡ 0) (k : ℕ) (l : k < schemas s) where
   finest : TierRow s (good_open s h).shape_is k 0
@@ -26,19 +25,19 @@ module _ (s : List ℕ) (h : open_check s ≡ 0) (k : ℕ) (l : k < schemas s) w
   series_there = rw add-zero at finest.series-is
 
 module _ (l : Lent) (k c : ℕ) where
-  pub handle_none : finest_of l.image k c ≡ Missing → handle_ok l k c ≡ false
+  pub handle_none : finest_of l.image k c ≡ None → handle_ok l k c ≡ false
   unfolding finest_of handle_ok tiers
   handle_none e = go (ltb k (schemas l.image) && ltb c (series_of (tiers_of k (rows l.image)))) e
     where
-      go : (b : Bool) → cond b (At (first_row k (rows l.image))) Missing ≡ Missing → b ≡ false
+      go : (b : Bool) → cond b (Some (first_row k (rows l.image))) None ≡ None → b ≡ false
       go true e = cc
       go false e = refl
 
-  pub handle_at : {i : ℕ} → finest_of l.image k c ≡ At i → (handle_ok l k c ≡ true) × (i ≡ first_row k (rows l.image))
+  pub handle_at : {i : ℕ} → finest_of l.image k c ≡ Some i → (handle_ok l k c ≡ true) × (i ≡ first_row k (rows l.image))
   unfolding finest_of handle_ok tiers
   handle_at {i} e = go (ltb k (schemas l.image) && ltb c (series_of (tiers_of k (rows l.image)))) e
     where
-      go : (b : Bool) → cond b (At (first_row k (rows l.image))) Missing ≡ At i → (b ≡ true) × (i ≡ first_row k (rows l.image))
+      go : (b : Bool) → cond b (Some (first_row k (rows l.image))) None ≡ Some i → (b ≡ true) × (i ≡ first_row k (rows l.image))
       go true e = (refl, cc)
       go false e = (cc, cc)
 
@@ -51,7 +50,7 @@ module _ (l : Lent) (k c : ℕ) where
       (lt-is k (schemas l.image) (and_left a b e), lt-is c (series_of (tiers_of k (rows l.image))) (and_right a b e))
 
   -- the row is there, and it has the column
-  pub row_there : {i : ℕ} → open_check l.image ≡ 0 → finest_of l.image k c ≡ At i → (i < row_count l.image) × (c < (row_at l.image i).series)
+  pub row_there : {i : ℕ} → open_check l.image ≡ 0 → finest_of l.image k c ≡ Some i → (i < row_count l.image) × (c < (row_at l.image i).series)
   row_there {i} h e =
       let a = handle_at e in
       let b = handle_in a.0 in

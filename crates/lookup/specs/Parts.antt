@@ -1,13 +1,11 @@
 -- The words of the contracts about what a call is lent: the lent record from an image and its flags, a row's slab, the row of a handle's finest tier, one
 -- flag set. Assumes nothing.
-use Rattle.std.specs.Prelude.{ℕ, ◌+◌, ◌≤◌, ◌<◌, ◌≡◌, Bool, ◌&&◌, cond, List, ltb, length, set}
+use Rattle.std.specs.Prelude.{ℕ, ◌+◌, ◌≤◌, ◌<◌, ◌≡◌, Bool, ◌&&◌, cond, List, ltb, length, set, Option, Some, None}
 use Rattle.model.specs.declared.Flags.{Flags}
 use Rattle.model.specs.Image.{schemas, row_at, rows, row_slots, tiers_of, slab_of}
 use Rattle.model.specs.Lent.{Lent, first_row}
 use Rattle.model.specs.Record.{series_of}
 use Rattle.ring_theory.specs.Sound.{Sound}
-use Rattle.lookup.specs.declared.Finest.{Finest}
-use Rattle.lookup.specs.declared.Finest.TheVariants.{At, Missing}
 
 abbrev pub lent_of : List ℕ → Flags → Lent
 lent_of s f = record { image = s; flags = f.wrapped }
@@ -28,5 +26,5 @@ pub record SlabAt (s : List ℕ) (i from to n m d : ℕ) : Type 0 where
   pub sound : Sound (slab_of s (row_at s i)) n m d
 
 -- 11 InvalidHandle
-unfoldable pub finest_of : List ℕ → ℕ → ℕ → Finest
-finest_of s k c = cond (ltb k (schemas s) && ltb c (series_of (tiers_of k (rows s)))) (At (first_row k (rows s))) Missing
+unfoldable pub finest_of : List ℕ → ℕ → ℕ → Option ℕ
+finest_of s k c = cond (ltb k (schemas s) && ltb c (series_of (tiers_of k (rows s)))) (Some (first_row k (rows s))) None

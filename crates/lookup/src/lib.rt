@@ -2,7 +2,8 @@
 // slab with its sizes, whether a stamp is old in its ring (18 OldSample), a row's flag. Record, query and consolidation go from a handle to a slab by these.
 #![tactic(auto)]
 
-ghost use Rattle.std.specs.Prelude.{◌≡◌, false, ◌+◌, ◌<◌, ◌≤◌, get_or};
+ghost use Rattle.std.specs.Prelude.{◌≡◌, false, ◌+◌, ◌<◌, ◌≤◌, get_or, IfOk, IfErr};
+ghost use Rattle.model.specs.Words.{number_of};
 ghost use Rattle.model.specs.Bytes.{get};
 ghost use Rattle.model.specs.Image.{row_count, row_place, row_at, rows, slab_of, open_check};
 ghost use Rattle.model.specs.Ring.{is_old};
@@ -17,103 +18,107 @@ pub struct Slab {
     pub sizes: ring::Sizes,
 }
 
-// The row of a handle's finest tier; none where the schema or the column is out of bounds.
+// An image that opening's check has passed.
 #[derive(Clone, Copy)]
-pub enum Finest {
-    At(usize),
-    Missing,
+pub struct Image<'a> {
+    pub bytes: &'a [u8],
+    pub ghost good: { open_check bytes.now ≡ 0 },
 }
 
-// A u32 of a row, `at` bytes behind its start.
-fn row_u32(image: &[u8], row: usize, at: usize) -> u64
-    requires image_value { open_check image.now ≡ 0 }
-    requires row_bound { (row < row_count image.now) × (at ≤ 60) }
-    ensures { (result ≡ get 4 image.now (row_place row + at)) × (result < 4294967296) }
-{
-    field::get_u32(image, format::HEADER + format::ROW * row + at)
-}
-
-// A u64 of a row, `at` bytes behind its start.
-fn row_u64(image: &[u8], row: usize, at: usize) -> u64
-    requires image_value { open_check image.now ≡ 0 }
-    requires row_bound { (row < row_count image.now) × (at ≤ 56) }
-    ensures { result ≡ get 8 image.now (row_place row + at) }
-{
-    field::get_u64(image, format::HEADER + format::ROW * row + at)
-}
-
-// A row's slab.
-pub fn slab_at(image: &[u8], row: usize) -> Slab
-    requires image_value { open_check image.now ≡ 0 }
-    requires row_bound { row < row_count image.now }
-    ensures { SlabAt image.now row result.from result.to result.sizes.slots result.sizes.series result.sizes.interval }
-{
-    let interval = row_u64(image, row, format::ROW_INTERVAL);
-    let series = row_u32(image, row, format::ROW_SERIES) as usize;
-    let from = row_u64(image, row, format::ROW_OFFSET) as usize;
-    let len = row_u64(image, row, format::ROW_LENGTH) as usize;
-    let slots = field::get_u32(image, from + format::SLAB_SLOTS) as usize;
-    let sizes = ring::Sizes {
-        slots: slots,
-        series: series,
-        interval: interval,
-    };
-    Slab {
-        from: from,
-        to: from + len,
-        sizes: sizes,
+impl<'a> Image<'a> {
+    // A slice as an image, or its refusal.
+    pub fn checked(bytes: &'a [u8]) -> Result<Self, model::Refusal>
+        ensures opened { IfOk result (λ image. image.bytes.now ≡ bytes.now) }
+        ensures refused { IfErr result (λ refusal. number_of refusal ≡ open_check bytes.now) }
+    {
+        image_checked::check_image(bytes)?;
+        Ok(Image { bytes })
     }
-}
 
-// Whether a stamp is below the one that its slot in a row's ring holds.
-pub fn is_old(image: &[u8], row: usize, stamp: u64) -> bool
-    requires image_value { open_check image.now ≡ 0 }
-    requires row_bound { row < row_count image.now }
-    ensures { result ≡ is_old (slab_of image.now (row_at image.now row)) stamp }
-{
-    let slab = slab_at(image, row);
-    let from = slab.from;
-    let to = slab.to;
-    let z = slab.sizes;
-    ring::is_old(&image[from..to], z, stamp)
-}
+    // A u32 of a row, `at` bytes behind its start.
+    fn row_u32(&self, row: usize, at: usize) -> u64
+        requires { (row < row_count self.now.bytes.now) × (at ≤ 60) }
+        ensures { (result ≡ get 4 self.now.bytes.now (row_place row + at)) × (result < 4294967296) }
+    {
+        field::get_u32(self.bytes, format::HEADER + format::ROW * row + at)
+    }
 
-// The first row of a schema; the number of rows where none has it.
-pub fn first_row(image: &[u8], schema: u64) -> usize
-    requires { open_check image.now ≡ 0 }
-    ensures { (result ≡ first_row schema (rows image.now)) × (result ≤ row_count image.now) }
-{
-    let count = field::get_u32(image, format::HEADER_ROWS) as usize;
-    let mut i = 0;
-    while i < count {
-        let s = row_u32(image, i, format::ROW_SCHEMA);
-        if s == schema {
-            return i;
+    // A u64 of a row, `at` bytes behind its start.
+    fn row_u64(&self, row: usize, at: usize) -> u64
+        requires { (row < row_count self.now.bytes.now) × (at ≤ 56) }
+        ensures { result ≡ get 8 self.now.bytes.now (row_place row + at) }
+    {
+        field::get_u64(self.bytes, format::HEADER + format::ROW * row + at)
+    }
+
+    // A row's slab.
+    pub fn slab_at(&self, row: usize) -> Slab
+        requires { row < row_count self.now.bytes.now }
+        ensures { SlabAt self.now.bytes.now row result.from result.to result.sizes.slots result.sizes.series result.sizes.interval }
+    {
+        let interval = self.row_u64(row, format::ROW_INTERVAL);
+        let series = self.row_u32(row, format::ROW_SERIES) as usize;
+        let from = self.row_u64(row, format::ROW_OFFSET) as usize;
+        let len = self.row_u64(row, format::ROW_LENGTH) as usize;
+        let slots = field::get_u32(self.bytes, from + format::SLAB_SLOTS) as usize;
+        let sizes = ring::Sizes {
+            slots,
+            series,
+            interval,
+        };
+        Slab {
+            from,
+            to: from + len,
+            sizes,
         }
-        i += 1;
     }
-    i
-}
 
-// The row of a handle's finest tier. An image in good order has a row, so the loop reads and asks the count after its first turn.
-pub fn finest_row(image: &[u8], schema: u64, column: u64) -> Finest
-    requires { open_check image.now ≡ 0 }
-    ensures { result ≡ finest_of image.now schema column }
-{
-    let mut i = 0;
-    loop {
-        let s = row_u32(image, i, format::ROW_SCHEMA);
-        if s == schema {
-            let series = row_u32(image, i, format::ROW_SERIES);
-            if column >= series {
-                return Finest::Missing;
+    // Whether a stamp is below the one that its slot in a row's ring holds.
+    pub fn is_old(&self, row: usize, stamp: u64) -> bool
+        requires { row < row_count self.now.bytes.now }
+        ensures { result ≡ is_old (slab_of self.now.bytes.now (row_at self.now.bytes.now row)) stamp }
+    {
+        let slab = self.slab_at(row);
+        let from = slab.from;
+        let to = slab.to;
+        let z = slab.sizes;
+        ring::is_old(&self.bytes[from..to], z, stamp)
+    }
+
+    // The first row of a schema; the number of rows where none has it.
+    pub fn first_row(&self, schema: u64) -> usize
+        ensures { (result ≡ first_row schema (rows self.now.bytes.now)) × (result ≤ row_count self.now.bytes.now) }
+    {
+        let count = field::get_u32(self.bytes, format::HEADER_ROWS) as usize;
+        for i in 0..count {
+            let s = self.row_u32(i, format::ROW_SCHEMA);
+            if s == schema {
+                return i;
             }
-            return Finest::At(i);
         }
-        i += 1;
-        let count = field::get_u32(image, format::HEADER_ROWS) as usize;
-        if i == count {
-            return Finest::Missing;
+        count
+    }
+
+    // The row of a handle's finest tier. An image in good order has a row, so the loop reads and asks the count after its first turn.
+    pub fn finest_row(&self, schema: u64, column: u64) -> Option<usize>
+        ensures { result ≡ finest_of self.now.bytes.now schema column }
+    {
+        // No `for`: with the count read first a query with three rows takes 385 instructions in place of 377, a batch of 64 2983 in place of 2785.
+        let mut i = 0;
+        loop {
+            let s = self.row_u32(i, format::ROW_SCHEMA);
+            if s == schema {
+                let series = self.row_u32(i, format::ROW_SERIES);
+                if column >= series {
+                    return None;
+                }
+                return Some(i);
+            }
+            i += 1;
+            let count = field::get_u32(self.bytes, format::HEADER_ROWS) as usize;
+            if i == count {
+                return None;
+            }
         }
     }
 }

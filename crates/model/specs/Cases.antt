@@ -1,11 +1,10 @@
 -- The cases A to L of document 01 as rows of one table, and the theorem that each row holds, by computation; then the figures of the request 2026-04.
 -- The stores have two series, so that the Rust can run A to L. Assumes nothing.
-use Rattle.std.specs.Prelude.{ℕ, zero, suc, ◌*◌, ◌≡◌, refl, Bool, true, false, List, [], ◌∷◌, ◌++◌, map, length, take, replicate, pos, neg_ℤ}
+use Rattle.std.specs.Prelude.{ℕ, zero, suc, ◌*◌, ◌≡◌, refl, Bool, true, false, List, [], ◌∷◌, ◌++◌, map, length, take, replicate, pos, neg_ℤ, Some}
 use Rattle.std.specs.Float.{binary64}
 use Rattle.std.specs.Float.Ieee.{of_bits, to_bits, of_int, add, div, lt}
 use Rattle.model.specs.declared.Row.{Row}
 use Rattle.model.specs.declared.Point.{Point}
-use Rattle.model.specs.declared.End.TheVariants.{At}
 use Rattle.model.specs.declared.ConsolidationFn.{ConsolidationFn}
 use Rattle.model.specs.declared.ConsolidationFn.TheVariants.{Average}
 use Rattle.model.specs.declared.WindowAnswer.{WindowAnswer}
@@ -98,7 +97,7 @@ result (layout rs) =
     numbers (map row_slots rs ++ map (λ r. r.offset) (placed_rows (row_place (length rs)) rs) ++ image_length (plan rs) ∷ [])
 result (check rs) = numbers (plan_check (plan rs) ∷ [])
 result (story rs cs) = shown_on (last_call (record { reply = done; lent = fresh rs }) cs)
-result (coverage o n start end) = covered (full (At o) (At n) start end) (incomplete (At o) (At n) start end)
+result (coverage o n start end) = covered (full (Some o) (Some n) start end) (incomplete (Some o) (Some n) start end)
 result (window f vs) = let hs = map held_value vs in result_of (answer_of f (seen hs) (finites hs))
 
 -- ---- the table
@@ -151,13 +150,13 @@ cases =
     ∷ (check (tier 0 1 1_000_000_001 0 ∷ []) gives numbers (5 ∷ []))
     -- D
     ∷ (story (ring10 4) (rec 10 1 ∷ rec 20 2 ∷ rec 30 3 ∷ rec 40 4 ∷ everything 0 ∷ [])
-    gives last (true ∷ []) (0 ∷ []) (points 0 (At 10) (At 40) 0 end64 true (at 10 1 ∷ at 20 2 ∷ at 30 3 ∷ at 40 4 ∷ [])))
+    gives last (true ∷ []) (0 ∷ []) (points 0 (Some 10) (Some 40) 0 end64 true (at 10 1 ∷ at 20 2 ∷ at 30 3 ∷ at 40 4 ∷ [])))
     -- beside D: another column at the same stamp leaves this column's cell
     ∷ (story (ring10 4) (rec 10 1 ∷ record_call 0 1 (num 2) 10 ∷ everything 0 ∷ [])
-    gives last (false ∷ []) (0 ∷ []) (points 0 (At 10) (At 10) 0 end64 true (at 10 1 ∷ [])))
+    gives last (false ∷ []) (0 ∷ []) (points 0 (Some 10) (Some 10) 0 end64 true (at 10 1 ∷ [])))
     -- E
     ∷ (story (ring10 4) (rec 10 1 ∷ rec 20 2 ∷ rec 30 3 ∷ rec 40 4 ∷ record_call 0 0 fresh_value 15 ∷ everything 0 ∷ [])
-    gives last (true ∷ []) (0 ∷ []) (points 0 (At 20) (At 15) 0 end64 true (at 20 2 ∷ at 30 3 ∷ at 40 4 ∷ [])))
+    gives last (true ∷ []) (0 ∷ []) (points 0 (Some 20) (Some 15) 0 end64 true (at 20 2 ∷ at 30 3 ∷ at 40 4 ∷ [])))
     -- F
     ∷ (coverage 10 40 10 40 gives covered true false)
     ∷ (coverage 10 40 10 41 gives covered false false)
@@ -175,10 +174,10 @@ cases =
     -- alone (writes 1), and that window then held 8, the mean of 7 and 9
     ∷ (story two (rec 30 1 ∷ rec 40 2 ∷ rec 50 6 ∷ consolidate_call ∷ []) gives last (false ∷ false ∷ []) (50 ∷ 0 ∷ []) (writes 1))
     ∷ (story two (rec 30 1 ∷ rec 40 2 ∷ rec 50 6 ∷ consolidate_call ∷ everything 1 ∷ [])
-    gives last (false ∷ false ∷ []) (50 ∷ 0 ∷ []) (points 1 (At 30) (At 30) 0 end64 true (at 30 3 ∷ [])))
+    gives last (false ∷ false ∷ []) (50 ∷ 0 ∷ []) (points 1 (Some 30) (Some 30) 0 end64 true (at 30 3 ∷ [])))
     ∷ (story two (rec 30 1 ∷ rec 40 2 ∷ rec 50 6 ∷ consolidate_call ∷ rec 60 5 ∷ consolidate_call ∷ []) gives last (false ∷ false ∷ []) (60 ∷ 0 ∷ []) (writes 2))
     ∷ (story two (rec 30 1 ∷ rec 40 2 ∷ rec 50 6 ∷ consolidate_call ∷ rec 60 5 ∷ consolidate_call ∷ rec 70 7 ∷ rec 80 9 ∷ consolidate_call ∷ everything 1 ∷ [])
-    gives last (false ∷ false ∷ []) (80 ∷ 0 ∷ []) (points 1 (At 30) (At 60) 0 end64 true (at 30 3 ∷ at 60 7 ∷ [])))
+    gives last (false ∷ false ∷ []) (80 ∷ 0 ∷ []) (points 1 (Some 30) (Some 60) 0 end64 true (at 30 3 ∷ at 60 7 ∷ [])))
     -- beside J: two windows in one run are two writes
     ∷ (story two (rec 30 1 ∷ rec 40 2 ∷ rec 50 6 ∷ rec 60 5 ∷ consolidate_call ∷ []) gives last (false ∷ false ∷ []) (60 ∷ 0 ∷ []) (writes 2))
     -- K
@@ -186,10 +185,10 @@ cases =
     -- L, with the request 2026-02: a stamp in any slot above the cursor tells of the wrap, whatever flags opening is handed. In document 01 the reading
     -- after it gave 100 and 110 only
     ∷ (story (ring10 10) (rec 50 1 ∷ rec 60 2 ∷ rec 70 3 ∷ rec 80 4 ∷ rec 90 5 ∷ rec 100 6 ∷ rec 110 7 ∷ open_call (replicate 32 false) ∷ everything 0 ∷ [])
-    gives last (true ∷ []) (0 ∷ []) (points 0 (At 50) (At 110) 0 end64 true (at 50 1 ∷ at 60 2 ∷ at 70 3 ∷ at 80 4 ∷ at 90 5 ∷ at 100 6 ∷ at 110 7 ∷ [])))
+    gives last (true ∷ []) (0 ∷ []) (points 0 (Some 50) (Some 110) 0 end64 true (at 50 1 ∷ at 60 2 ∷ at 70 3 ∷ at 80 4 ∷ at 90 5 ∷ at 100 6 ∷ at 110 7 ∷ [])))
     -- beside L: slots up to the cursor do not count. Document 01's rule took slot 0 for the one after the last, and set the flag; the points are the same
     ∷ (story (ring10 4) (rec 40 1 ∷ rec 50 2 ∷ rec 60 3 ∷ rec 70 4 ∷ open_call (replicate 32 true) ∷ everything 0 ∷ [])
-    gives last (false ∷ []) (0 ∷ []) (points 0 (At 40) (At 70) 0 end64 true (at 40 1 ∷ at 50 2 ∷ at 60 3 ∷ at 70 4 ∷ [])))
+    gives last (false ∷ []) (0 ∷ []) (points 0 (Some 40) (Some 70) 0 end64 true (at 40 1 ∷ at 50 2 ∷ at 60 3 ∷ at 70 4 ∷ [])))
     ∷ []
 
 unfoldable pub Cases-defs : Unit {0}
@@ -217,6 +216,6 @@ panel_rounds = refl
 -- E: the stamp at the cursor is 15, with NaN; the last point that is handed out is 40's, and the ends are the ring's. Column 1 has none: no 0, and no ends
 pub figures_of_e :
     let e = after (fresh (ring10 4)) (rec 10 1 ∷ rec 20 2 ∷ rec 30 3 ∷ rec 40 4 ∷ record_call 0 0 fresh_value 15 ∷ []) in
-    (panel e 0 0 0 ≡ shows (pos 4)) × (service e 0 0 0 ≡ serves 40 (num 4) (At 20) (At 15)) × (panel e 0 1 0 ≡ shows_nothing) × (service e 0 1 0 ≡ serves_nothing)
+    (panel e 0 0 0 ≡ shows (pos 4)) × (service e 0 0 0 ≡ serves 40 (num 4) (Some 20) (Some 15)) × (panel e 0 1 0 ≡ shows_nothing) × (service e 0 1 0 ≡ serves_nothing)
 unfolding Cases-defs
 figures_of_e = (refl, refl, refl, refl)

@@ -1,13 +1,9 @@
 -- Consolidation (document 01, "Consolidate"; where a reading starts: request 2026-01; which writes are passed over: request 2026-05): the windows of a pair, the
 -- writes to its destination, its mark; the run over all pairs. Assumes nothing.
-use Rattle.std.specs.Prelude.{ℕ, zero, suc, ◌+◌, ◌-◌, ◌^◌, Bool, true, false, not, ◌&&◌, cond, List, [], ◌∷◌, leb, ltb, eqb}
+use Rattle.std.specs.Prelude.{ℕ, zero, suc, ◌+◌, ◌-◌, ◌^◌, Bool, true, false, not, ◌&&◌, cond, List, [], ◌∷◌, leb, ltb, eqb, Option, Some, None}
 use Rattle.std.specs.Float.{binary64}
 use Rattle.std.specs.Float.Ieee.{to_bits}
-use Rattle.model.specs.declared.End.{End}
-use Rattle.model.specs.declared.End.TheVariants.{At, Missing}
 use Rattle.model.specs.declared.ConsolidationFn.{ConsolidationFn}
-use Rattle.model.specs.declared.TierFn.{TierFn}
-use Rattle.model.specs.declared.TierFn.TheVariants.{None, Some}
 use Rattle.model.specs.declared.WindowAnswer.{WindowAnswer}
 use Rattle.model.specs.declared.WindowAnswer.TheVariants.{Empty, Number, NothingFinite}
 use Rattle.model.specs.Words.{function_no}
@@ -23,11 +19,11 @@ use Rattle.model.specs.Record.{stamp_ok}
 -- so nothing is written for it
 
 -- the lower of the least start so far and w
-unfoldable pub lower : End → ℕ → End
-lower Missing w = At w
-lower (At v) w = At (cond (ltb w v) w v)
+unfoldable pub lower : Option ℕ → ℕ → Option ℕ
+lower None w = Some w
+lower (Some v) w = Some (cond (ltb w v) w v)
 
-unfoldable pub lower_if : Bool → End → ℕ → End
+unfoldable pub lower_if : Bool → Option ℕ → ℕ → Option ℕ
 lower_if true least w = lower least w
 lower_if false least w = least
 
@@ -36,20 +32,20 @@ unfoldable pub is_next : Job → ℕ → ℕ → Bool
 is_next q bound t = leb q.start t && ltb t q.end && leb bound (window_of q.long t)
 
 -- the least window start from the bound on, of these slots' stamps
-unfoldable pub least_from : Job → ℕ → End → List ℕ → End
+unfoldable pub least_from : Job → ℕ → Option ℕ → List ℕ → Option ℕ
 least_from q bound least [] = least
 least_from q bound least (i ∷ is) =
     let t = stamp q.source.slab i in
     least_from q bound (lower_if (is_next q bound t) least (window_of q.long t)) is
 
-unfoldable pub next_window : Job → ℕ → End
-next_window q bound = least_from q bound Missing (order q.source)
+unfoldable pub next_window : Job → ℕ → Option ℕ
+next_window q bound = least_from q bound None (order q.source)
 
 -- at most k windows, the first being the one found
-unfoldable pub windows_from : Job → ℕ → End → List ℕ
+unfoldable pub windows_from : Job → ℕ → Option ℕ → List ℕ
 windows_from q zero e = []
-windows_from q (suc k) Missing = []
-windows_from q (suc k) (At w) = w ∷ windows_from q k (next_window q (suc w))
+windows_from q (suc k) None = []
+windows_from q (suc k) (Some w) = w ∷ windows_from q k (next_window q (suc w))
 
 -- a source of n slots has at most n windows
 unfoldable pub windows : Job → List ℕ
@@ -115,9 +111,9 @@ unfoldable pub stamps_below : List ℕ → ℕ → ℕ → Bool
 stamps_below s i zero = true
 stamps_below s i (suc k) = ltb (stamp s i) (2 ^ 63) && stamps_below s (suc i) k
 
-unfoldable pub or_zero : End → ℕ
-or_zero Missing = 0
-or_zero (At t) = t
+unfoldable pub or_zero : Option ℕ → ℕ
+or_zero None = 0
+or_zero (Some t) = t
 
 -- where the reading starts: at the oldest stamp if the mark is 0, else at the start of the destination's window that holds the mark; `long` is its interval
 -- (request 2026-01; in document 01 alone at mark + source interval)
@@ -126,9 +122,9 @@ start_of zero long r = or_zero (oldest r)
 start_of (suc k) long r = window_of long (suc k)
 
 -- newest + 1, or 0 without a newest
-unfoldable pub end_after : End → ℕ
-end_after Missing = 0
-end_after (At t) = suc t
+unfoldable pub end_after : Option ℕ → ℕ
+end_after None = 0
+end_after (Some t) = suc t
 
 unfoldable pub job_of : Lent → ℕ → ConsolidationFn → Job
 job_of l i f = record {
@@ -162,7 +158,7 @@ pair_with true f u i =
     close_pair u i (or_zero (newest (ring l i))) (filled (job_of l i f) (ring l (suc i)) (row l i).series)
 
 -- 16, without a function
-unfoldable pub pair_by : TierFn → Run → ℕ → Run
+unfoldable pub pair_by : Option ConsolidationFn → Run → ℕ → Run
 pair_by None u i = refuse_run u 16
 pair_by (Some f) u i = pair_with (stamps_below (ring u.lent i).slab 0 (slots (ring u.lent i).slab)) f u i
 

@@ -1,21 +1,16 @@
 -- The panel's figure and the service figure (request 2026-04): the last point that a reading over all time hands out, as a whole number for the panel, in full
 -- for service tools. Assumes nothing.
-use Rattle.std.specs.Prelude.{ℕ, ◌-◌, ◌*◌, ◌^◌, ◌≡◌, ◌≢◌, Bool, true, false, cond, List, [], ◌∷◌, leb, ℤ, pos, Float}
+use Rattle.std.specs.Prelude.{ℕ, ◌-◌, ◌*◌, ◌^◌, ◌≡◌, ◌≢◌, Bool, true, false, cond, List, [], ◌∷◌, leb, ℤ, pos, Float, Option, Some, None, Result, Ok, Err}
 use Rattle.std.specs.Float.{nan, inf, fin, binary64}
 use Rattle.std.specs.Float.Ieee.{of_bits, eq, up, down}
 use Rattle.std.specs.Float.Ieee.Nearest.{closest}
-use Rattle.model.specs.declared.End.{End}
 use Rattle.model.specs.declared.Point.{Point}
-use Rattle.model.specs.declared.LastPoint.{LastPoint}
-use Rattle.model.specs.declared.LastPoint.TheVariants.{Last, NoPoint}
-use Rattle.model.specs.declared.Panel.{Panel}
-use Rattle.model.specs.declared.Panel.TheVariants as P
-use Rattle.model.specs.declared.Service.{Service}
-use Rattle.model.specs.declared.Service.TheVariants as S
 use Rattle.model.specs.Words.{number_of, signed}
 use Rattle.model.specs.Read.{points_of}
 use Rattle.model.specs.Lent.{Lent}
 use Rattle.model.specs.Query.{QueryReply, found, not_found, query}
+use Rattle.model.specs.declared.ServiceFigure.{ServiceFigure}
+use Rattle.model.specs.declared.Refusal.{Refusal}
 
 -- ---- the reading, and its last point
 
@@ -28,14 +23,14 @@ unfoldable pub reading : Lent → ℕ → ℕ → ℕ → QueryReply
 reading l k c j = query l k c j 0 end_of_time
 
 -- the last of these points; where there is none, x
-unfoldable pub last_after : LastPoint → List Point → LastPoint
+unfoldable pub last_after : Option Point → List Point → Option Point
 last_after x [] = x
-last_after x (p ∷ ps) = last_after (Last p) ps
+last_after x (p ∷ ps) = last_after (Some p) ps
 
 -- the last point that a reading hands out
-unfoldable pub last_on : QueryReply → LastPoint
-last_on (not_found n) = NoPoint
-last_on (found a) = last_after NoPoint (points_of a.reader)
+unfoldable pub last_on : QueryReply → Option Point
+last_on (not_found n) = None
+last_on (found a) = last_after None (points_of a.reader)
 
 -- ---- the panel
 
@@ -60,9 +55,9 @@ unfoldable pub shown_value : Float → PanelReply
 shown_value x = cond (on_panel x) (shows (nearest_whole x)) (not_shown 17)
 
 -- 17 is tried last, and only where there is a point
-unfoldable pub shown_point : LastPoint → PanelReply
-shown_point NoPoint = shows_nothing
-shown_point (Last p) = shown_value (of_bits binary64 p.value)
+unfoldable pub shown_point : Option Point → PanelReply
+shown_point None = shows_nothing
+shown_point (Some p) = shown_value (of_bits binary64 p.value)
 
 unfoldable pub panel_on : QueryReply → PanelReply
 panel_on (not_found n) = not_shown n
@@ -74,14 +69,14 @@ panel l k c j = panel_on (reading l k c j)
 -- ---- service tools
 
 pub data ServiceReply : Type 0 where
-  serves : (stamp value : ℕ) (oldest newest : End) → ServiceReply
+  serves : (stamp value : ℕ) (oldest newest : Option ℕ) → ServiceReply
   serves_nothing : ServiceReply
   not_served : (refusal : ℕ) → ServiceReply
 
 -- the last point in full, with both ends of the reading, which are there where a point is (figure_theory, `service-ends`)
-unfoldable pub served_point : LastPoint → End → End → ServiceReply
-served_point NoPoint o n = serves_nothing
-served_point (Last p) o n = serves p.stamp p.value o n
+unfoldable pub served_point : Option Point → Option ℕ → Option ℕ → ServiceReply
+served_point None o n = serves_nothing
+served_point (Some p) o n = serves p.stamp p.value o n
 
 unfoldable pub service_on : QueryReply → ServiceReply
 service_on (not_found n) = not_served n
@@ -92,24 +87,24 @@ service l k c j = service_on (reading l k c j)
 
 -- ---- the code's answers in the documents' numbers
 
-unfoldable pub panel_reply : Panel → PanelReply
-panel_reply (P.Shows z) = shows z
-panel_reply P.Nothing = shows_nothing
-panel_reply (P.Refused r) = not_shown (number_of r)
+unfoldable pub panel_reply : Result (Option ℤ) Refusal → PanelReply
+panel_reply (Ok (Some z)) = shows z
+panel_reply (Ok None) = shows_nothing
+panel_reply (Err r) = not_shown (number_of r)
 
-unfoldable pub service_reply : Service → ServiceReply
-service_reply (S.Gives f) = serves f.stamp f.value f.oldest f.newest
-service_reply S.Nothing = serves_nothing
-service_reply (S.Refused r) = not_served (number_of r)
+unfoldable pub service_reply : Result (Option ServiceFigure) Refusal → ServiceReply
+service_reply (Ok (Some f)) = serves f.stamp f.value f.oldest f.newest
+service_reply (Ok None) = serves_nothing
+service_reply (Err r) = not_served (number_of r)
 
 -- ---- what the request claims
 
 -- two last points agree in value: equal as numbers, 0.0 and -0.0 too, or there is neither
-unfoldable pub agree : LastPoint → LastPoint → Bool
-agree NoPoint NoPoint = true
-agree NoPoint (Last q) = false
-agree (Last p) NoPoint = false
-agree (Last p) (Last q) = eq (of_bits binary64 p.value) (of_bits binary64 q.value)
+unfoldable pub agree : Option Point → Option Point → Bool
+agree None None = true
+agree None (Some q) = false
+agree (Some p) None = false
+agree (Some p) (Some q) = eq (of_bits binary64 p.value) (of_bits binary64 q.value)
 
 -- two stores that agree in that value show the same on the panel, whatever else they hold, once neither call is refused
 unfoldable pub SameOnPanel : Type 0

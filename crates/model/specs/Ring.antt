@@ -1,8 +1,6 @@
 -- One ring, a slab with its wrap flag: the fields, a write, the reading order, the ends (document 01, "Record", "Query" and "The slab's bytes"), the flag at
 -- opening (request 2026-02), which stamps are old (request 2026-05). Assumes nothing.
-use Rattle.std.specs.Prelude.{ℕ, zero, suc, ◌+◌, ◌-◌, ◌*◌, ◌/◌, ◌%◌, ◌^◌, Bool, true, false, not, ◌&&◌, ◌||◌, cond, List, [], ◌∷◌, leb, ltb, eqb}
-use Rattle.model.specs.declared.End.{End}
-use Rattle.model.specs.declared.End.TheVariants.{At, Missing}
+use Rattle.std.specs.Prelude.{ℕ, zero, suc, ◌+◌, ◌-◌, ◌*◌, ◌/◌, ◌%◌, ◌^◌, Bool, true, false, not, ◌&&◌, ◌||◌, cond, List, [], ◌∷◌, leb, ltb, eqb, Option, Some, None}
 use Rattle.model.specs.declared.Place.{Place}
 use Rattle.model.specs.Bytes.{u32, u64, put32, put64}
 use Rattle.model.specs.Layout.{stamps_at, column_at}
@@ -112,12 +110,12 @@ order r = walk (slots r.slab) (first_place r).slot (first_place r).left
 -- ---- the ends
 
 -- a stamp as an end: 0 is none
-unfoldable pub end_of : ℕ → End
-end_of zero = Missing
-end_of (suc t) = At (suc t)
+unfoldable pub end_of : ℕ → Option ℕ
+end_of zero = None
+end_of (suc t) = Some (suc t)
 
 -- the stamp at the cursor
-unfoldable pub newest : Ring → End
+unfoldable pub newest : Ring → Option ℕ
 newest r = end_of (stamp r.slab (cursor r.slab))
 
 unfoldable pub or_stamp : ℕ → ℕ → ℕ
@@ -129,7 +127,7 @@ unfoldable pub first_stamp : List ℕ → List ℕ → ℕ
 first_stamp s [] = 0
 first_stamp s (i ∷ is) = or_stamp (stamp s i) (first_stamp s is)
 
-unfoldable pub oldest : Ring → End
+unfoldable pub oldest : Ring → Option ℕ
 oldest r = end_of (first_stamp r.slab (order r))
 
 -- ---- the flag that opening works out

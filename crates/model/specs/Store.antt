@@ -1,12 +1,6 @@
 -- One call: what it answers and what it leaves lent; and a list of them (document 01, "Words of the third demand", and request 2026-02, which lets openings
 -- stand in it). Creation stands beside, in Lent. Assumes nothing.
-use Rattle.std.specs.Prelude.{ℕ, zero, suc, Bool, List, [], ◌∷◌}
-use Rattle.model.specs.declared.Outcome.{Outcome}
-use Rattle.model.specs.declared.Outcome.TheVariants as O
-use Rattle.model.specs.declared.Consolidated.{Consolidated}
-use Rattle.model.specs.declared.Consolidated.TheVariants as C
-use Rattle.model.specs.declared.Queried.{Queried}
-use Rattle.model.specs.declared.End.{End}
+use Rattle.std.specs.Prelude.{ℕ, zero, suc, Bool, List, [], ◌∷◌, Option, Result, Ok, Err}
 use Rattle.model.specs.declared.Point.{Point}
 use Rattle.model.specs.Words.{number_of}
 use Rattle.model.specs.Image.{open_check}
@@ -15,6 +9,8 @@ use Rattle.model.specs.Lent.{Lent, opening}
 use Rattle.model.specs.Record.{Entry, record_check, record_on, batch_check, batch_on}
 use Rattle.model.specs.Query.{Answered, QueryReply, found, not_found, query, query_auto, replied_by}
 use Rattle.model.specs.Consolidate.{Run, run}
+use Rattle.model.specs.declared.Found.{Found}
+use Rattle.model.specs.declared.Refusal.{Refusal}
 
 pub data Call : Type 0 where
   record_call : (schema column value stamp : ℕ) → Call
@@ -94,7 +90,7 @@ pub data Shown : Type 0 where
   refusal : ℕ → Shown
   accepted : Shown
   writes : ℕ → Shown
-  points : (tier : ℕ) (oldest newest : End) (start end : ℕ) (incomplete : Bool) → List Point → Shown
+  points : (tier : ℕ) (oldest newest : Option ℕ) (start end : ℕ) (incomplete : Bool) → List Point → Shown
 
 unfoldable pub shown : Reply → Shown
 shown (refused n) = refusal n
@@ -104,16 +100,16 @@ shown (read a) = points a.tier a.oldest a.newest a.start a.end a.incomplete (poi
 
 -- ---- the code's answers as replies, so that a promise says `.. ≡ call .. .reply`
 
-unfoldable pub outcome_reply : Outcome → Reply
-outcome_reply O.Accepted = done
-outcome_reply (O.Refused r) = refused (number_of r)
+unfoldable pub outcome_reply : Result (Unit {0}) Refusal → Reply
+outcome_reply (Ok tt) = done
+outcome_reply (Err r) = refused (number_of r)
 
-unfoldable pub consolidated_reply : Consolidated → Reply
-consolidated_reply (C.Wrote k) = wrote k
-consolidated_reply (C.Refused r) = refused (number_of r)
+unfoldable pub consolidated_reply : Result ℕ Refusal → Reply
+consolidated_reply (Ok k) = wrote k
+consolidated_reply (Err r) = refused (number_of r)
 
 -- a query's, on the image that it was lent
-unfoldable pub queried_reply : List ℕ → Queried → Reply
+unfoldable pub queried_reply : List ℕ → Result Found Refusal → Reply
 queried_reply s q = read_or (replied_by s q)
 
 -- names every definition of this module, for a proof by computation: `unfolding Store-defs`

@@ -39,6 +39,10 @@ module _ (s : List ℕ) (e : open_check s ≡ 0) where
   pub long : 32 ≤ length s
   long = g.shape_is.long
 
+  pub there : 32 + 64 * get 4 s 12 ≤ length s
+  unfolding row_count row_place
+  there = g.shape_is.head-fits
+
   pub handed : {n i : ℕ} {r : Row} → n ≡ get 4 s 12 → i < n → r ≡ row_at s i → Handed s r
   unfolding row_count
   handed {i = i} {r} en h is =
@@ -74,10 +78,10 @@ module _ (l : Lent) where
   refused_is zero e f = absurd (f refl)
   refused_is (suc x) e f = rw (← e)
 
-  pub accepted_is : {n : ℕ} {flags : List Bool} → open_check l.image ≡ 0 → n ≡ get 4 l.image 12
-      → flags ≡ wrap_flags l.image (rows_to l.image n 0) ++ drop n l.flags → record { image = l.image; flags = flags } ≡ opening l
+  pub accepted_is : {b : List ℕ} {n : ℕ} {flags : List Bool} → open_check l.image ≡ 0 → (b ≡ l.image) × (n ≡ get 4 l.image 12)
+      → flags ≡ wrap_flags b (rows_to b n 0) ++ drop n l.flags → record { image = l.image; flags = flags } ≡ opening l
   unfolding opening open_on row_count
-  accepted_is e en b = rw (e, b, en, rows_all l.image)
+  accepted_is e is f = rw (e, f, is.0, is.1, rows_all l.image)
 
 -- ---- a ring's flag
 

@@ -7,100 +7,84 @@ ghost use Rattle.model.specs.Bytes.{get};
 ghost use Rattle.model.specs.Image.{open_check};
 ghost use Rattle.model.specs.Ring.{any_stamp, wrap_flag};
 ghost use Rattle.model.specs.Lent.{wrap_flags, opening};
-ghost use Rattle.ring.specs.Parts.{Sized};
 ghost use Rattle.rows.specs.Rows.{rows_to};
 ghost use Rattle.image.specs.Lent.{lent};
 
-// Opening's answer, and the flags as it leaves them.
-#[derive(Clone, Copy)]
-pub struct Opened {
-    pub outcome: model::Outcome,
-    pub flags: model::Flags,
-}
-
 // One of some slots from `first` on has a nonzero stamp: a slot at a time.
-fn any_single(slab: &[u8], n: usize, m: usize, first: usize, count: usize) -> bool
-    requires sized { Sized slab.now n m }
-    requires count_bound { first + count ≤ n }
-    ensures { result ≡ any_stamp slab.now first count }
+fn any_single(slab: &ring::Slab, first: usize, count: usize) -> bool
+    requires { first + count ≤ slab.now.slots }
+    ensures { result ≡ any_stamp slab.now.bytes.now first count }
 {
-    let mut slot = first;
-    let mut left = count;
-    while 0 < left {
-        let t = ring::stamp_of(slab, n, m, slot);
+    for slot in first..first + count {
+        let t = slab.stamp(slot);
         if t != 0 {
             return true;
         }
-        slot += 1;
-        left -= 1;
     }
     false
 }
 
 // The same, eight slots at a time, and the rest one by one: two instructions a slot in place of five.
-fn any_stamp(slab: &[u8], n: usize, m: usize, first: usize, count: usize) -> bool
-    requires sized { Sized slab.now n m }
-    requires count_bound { first + count ≤ n }
-    ensures { result ≡ any_stamp slab.now first count }
+fn any_stamp(slab: &ring::Slab, first: usize, count: usize) -> bool
+    requires { first + count ≤ slab.now.slots }
+    ensures { result ≡ any_stamp slab.now.bytes.now first count }
 {
-    let mut slot = first;
-    let mut left = count;
-    while 8 <= left {
-        let eight = ring_joined::eight(slab, n, m, slot);
+    let groups = count / 8;
+    for group in 0..groups {
+        let eight = ring_joined::eight(slab, first + 8 * group);
         if eight != 0 {
             return true;
         }
-        slot += 8;
-        left -= 8;
     }
-    any_single(slab, n, m, slot, left)
+    any_single(slab, first + 8 * groups, count % 8)
 }
 
-// The flag of a slab with n slots and m series: some slot above the cursor has a nonzero stamp.
-pub fn wrap_flag(slab: &[u8], n: usize, m: usize) -> bool
-    requires { Sized slab.now n m }
-    ensures { result ≡ wrap_flag slab.now }
+// The flag of a slab: some slot above the cursor has a nonzero stamp.
+pub fn wrap_flag(slab: &ring::Slab) -> bool
+    ensures { result ≡ wrap_flag slab.now.bytes.now }
 {
-    let cursor = ring::cursor_of(slab, n, m);
+    let cursor = slab.cursor();
     let first = cursor + 1;
-    any_stamp(slab, n, m, first, n - first)
+    any_stamp(slab, first, slab.slots - first)
 }
 
-// The first n flags worked out.
-fn flags_of(s: &[u8], n: usize, wrapped: [bool; 32]) -> model::Flags
-    requires { (open_check s.now ≡ 0) × (n ≡ get 4 s.now 12) }
-    ensures { result.wrapped ≡ wrap_flags s.now (rows_to s.now n 0) ++ drop n wrapped }
+// The flags of an image's rows worked out.
+fn flags_of(table: &rows::Table, wrapped: [bool; 32]) -> model::Flags
+    requires { (open_check table.now.bytes.now ≡ 0) × (table.now.count ≡ get 4 table.now.bytes.now 12) }
+    ensures { result.wrapped ≡ wrap_flags table.now.bytes.now (rows_to table.now.bytes.now table.now.count 0) ++ drop table.now.count wrapped }
 {
     let mut next = wrapped;
-    let mut i = 0;
-    while i < n {
-        let r = rows::row_at(s, i);
+    for i in 0..table.count {
+        let r = table.row(i);
         let offset = r.offset as usize;
         let end = offset + (r.len as usize);
-        let slots = layout::row_slots(r) as usize;
-        let flag = wrap_flag(&s[offset..end], slots, r.series as usize);
+        let slab = ring::Slab {
+            bytes: &table.bytes[offset..end],
+            slots: layout::row_slots(r) as usize,
+            series: r.series as usize,
+        };
+        let flag = wrap_flag(&slab);
         next[i] = flag;
-        i += 1;
     }
     model::Flags { wrapped: next }
 }
 
 // An image in a lent slice, with flags by value.
-pub fn open(image: &[u8], flags: model::Flags) -> Opened
-    ensures { (outcome_no result.outcome ≡ open_check image.now) × (lent image.now result.flags ≡ opening (lent image.now flags)) }
+pub fn open(image: &[u8], flags: model::Flags) -> model::Called<Result<(), model::Refusal>>
+    ensures { (outcome_no result.answer ≡ open_check image.now) × (lent image.now result.flags ≡ opening (lent image.now flags)) }
 {
     let checked = image_checked::check_image(image);
-    let model::Outcome::Accepted = checked else {
-        return Opened {
-            outcome: checked,
-            flags: flags,
+    let Ok(()) = checked else {
+        return model::Called {
+            answer: checked,
+            flags,
         };
     };
-    let n = field::get_u32(image, format::HEADER_ROWS) as usize;
+    let table = rows::Table::of(image);
     let wrapped = flags.wrapped;
-    let next = flags_of(image, n, wrapped);
-    Opened {
-        outcome: checked,
+    let next = flags_of(&table, wrapped);
+    model::Called {
+        answer: checked,
         flags: next,
     }
 }

@@ -1,4 +1,5 @@
 -- The filled pair closed, as the definition closes it; the pair by its function and the test of its stamps. Assumes nothing.
+use Rattle.std.specs.Prelude.{Option, Some, None, Result, Ok}
 use Prim.Native.Nat.{ℕ, suc, ◌+◌, ◌-◌, ◌*◌}
 use native.Mathlib.Omega.{arith}
 use native.Mathlib.Numerals.{add-one}
@@ -9,14 +10,8 @@ use mathlib.Core.List.{List}
 use lib.Dec.{eqb, ltb}
 use lib.ListN.{get_or, set}
 use Rattle.model.specs.declared.ConsolidationFn.{ConsolidationFn}
-use Rattle.model.specs.declared.End.{End}
-use Rattle.model.specs.declared.End.TheVariants.{At, Missing}
 use Rattle.model.specs.declared.Flags.{Flags}
-use Rattle.model.specs.declared.Outcome.{Outcome}
-use Rattle.model.specs.declared.Outcome.TheVariants.{Accepted}
 use Rattle.model.specs.declared.Row.{Row}
-use Rattle.model.specs.declared.TierFn.{TierFn}
-use Rattle.model.specs.declared.TierFn.TheVariants.{None, Some}
 use Rattle.model.specs.Words.{function_no, outcome_no}
 use Rattle.model.specs.Bytes.{put}
 use Rattle.model.specs.Image.{row_at, row_place, mark_at, slab_of}
@@ -32,13 +27,14 @@ use Rattle.pair_fill.specs.declared.Pair.{Pair}
 use Rattle.pair_fill.specs.Parts.{pair_job, filled_in, Keeps}
 use Rattle.pair.specs.declared.Progress.{Progress}
 use Rattle.pair.specs.Parts.{run_of, PairAt, marked_if}
+use Rattle.model.specs.declared.Refusal.{Refusal}
 
 -- ---- the mark
 
-end_before : (e : End) → end_after e - 1 ≡ or_zero e
+end_before : (e : Option ℕ) → end_after e - 1 ≡ or_zero e
 unfolding end_after or_zero
-end_before Missing = refl
-end_before (At t) = omega arith
+end_before None = refl
+end_before (Some t) = omega arith
 
 mark_is : (b : Bool) (s : List ℕ) (flags : List Bool) (i t : ℕ) → record { image = marked_if b s i t; flags = flags } ≡ with_mark b (record { image = s; flags = flags }) i t
 unfolding marked_if with_mark
@@ -46,7 +42,7 @@ mark_is true s flags i t = refl
 mark_is false s flags i t = refl
 
 -- by the code's tests
-module _ (s : List ℕ) (i t w : ℕ) (o : Outcome) where
+module _ (s : List ℕ) (i t w : ℕ) (o : Result (Unit {0}) Refusal) where
   pub mark_refused : outcome_no o ≢ 0 → s ≡ marked_if (eqb (outcome_no o) 0 && ltb 0 w) s i t
   unfolding marked_if
   mark_refused h = rw (no_eq (outcome_no o) 0 h)
@@ -55,7 +51,7 @@ module _ (s : List ℕ) (i t w : ℕ) (o : Outcome) where
   unfolding marked_if
   mark_unmoved h = rw (h, and-false (eqb (outcome_no o) 0))
 
-  pub mark_moved : {v : List ℕ} → o ≡ Accepted → w ≢ 0 → v ≡ put 8 s (32 + 64 * i + 48) t → v ≡ marked_if (eqb (outcome_no o) 0 && ltb 0 w) s i t
+  pub mark_moved : {v : List ℕ} → o ≡ Ok tt → w ≢ 0 → v ≡ put 8 s (32 + 64 * i + 48) t → v ≡ marked_if (eqb (outcome_no o) 0 && ltb 0 w) s i t
   unfolding marked_if mark_at row_place
   mark_moved e h k = rw (e, yes_lt 0 w (omega arith)) k
 
@@ -70,7 +66,7 @@ module _ (s t : List ℕ) (u : Progress) (i : ℕ) (f : ConsolidationFn) (p : Pa
 
   -- what the code filled is the definition's
   filled_is : {w : Bool} → w ≡ get_or u.flags.wrapped (suc i) false
-      → filled_in t p r ≡ fill (pair_job s p) (filled_in s p (record { wrapped = w; writes = 0; outcome = Accepted })) (windows (pair_job s p)) p.reading.series
+      → filled_in t p r ≡ fill (pair_job s p) (filled_in s p (record { wrapped = w; writes = 0; outcome = (Ok tt) })) (windows (pair_job s p)) p.reading.series
       → filled_in t p r ≡ whole
   unfolding filled ring row
   filled_is e m = m ∙ rw (h.job_is, h.dest_is, h.series-is, e)
@@ -80,7 +76,7 @@ module _ (s t : List ℕ) (u : Progress) (i : ℕ) (f : ConsolidationFn) (p : Pa
   ring-is e = rw (← e, ← h.start_is) (ap (λ (x : List ℕ). record { image = x; flags = set u.flags.wrapped (suc i) r.wrapped }) k.only)
 
   pair-filled : {w : Bool} (stamp : ℕ) → w ≡ get_or u.flags.wrapped (suc i) false
-      → filled_in t p r ≡ fill (pair_job s p) (filled_in s p (record { wrapped = w; writes = 0; outcome = Accepted })) (windows (pair_job s p)) p.reading.series
+      → filled_in t p r ≡ fill (pair_job s p) (filled_in s p (record { wrapped = w; writes = 0; outcome = (Ok tt) })) (windows (pair_job s p)) p.reading.series
       → stamp ≡ p.reading.end - 1 → {v : List ℕ} → v ≡ marked_if (eqb (outcome_no r.outcome) 0 && ltb 0 r.writes) t i stamp
       → run_of v (record { flags = with_flag u.flags (suc i) r.wrapped; count = u.count + r.writes; outcome = r.outcome }) ≡ pair_with true f (run_of s u) i
   unfolding pair_with close_pair
@@ -91,7 +87,7 @@ module _ (s t : List ℕ) (u : Progress) (i : ℕ) (f : ConsolidationFn) (p : Pa
 
   -- in the code's terms
   pub pair_done : {w : Bool} (stamp : ℕ) → w ≡ get_or u.flags.wrapped (i + 1) false
-      → filled_in t p r ≡ fill (pair_job s p) (filled_in s p (record { wrapped = w; writes = 0; outcome = Accepted })) (windows (pair_job s p)) p.reading.series
+      → filled_in t p r ≡ fill (pair_job s p) (filled_in s p (record { wrapped = w; writes = 0; outcome = (Ok tt) })) (windows (pair_job s p)) p.reading.series
       → stamp ≡ p.reading.end - 1 → {v : List ℕ} → v ≡ marked_if (eqb (outcome_no r.outcome) 0 && ltb 0 r.writes) t i stamp
       → {after : Flags} → after ≡ with_flag u.flags (i + 1) r.wrapped
       → run_of v (record { flags = after; count = u.count + r.writes; outcome = r.outcome }) ≡ pair_with true f (run_of s u) i
@@ -101,21 +97,21 @@ module _ (s t : List ℕ) (u : Progress) (i : ℕ) (f : ConsolidationFn) (p : Pa
 
 -- ---- the pair by its function and its stamps
 
-pub function_is : (s : List ℕ) (i : ℕ) {r : Row} {g : TierFn} → r ≡ row_at s (i + 1) → g ≡ function_no r.function → g ≡ function_no (row_at s (suc i)).function
+pub function_is : (s : List ℕ) (i : ℕ) {r : Row} {g : Option ConsolidationFn} → r ≡ row_at s (i + 1) → g ≡ function_no r.function → g ≡ function_no (row_at s (suc i)).function
 function_is s i e k = k ∙ rw (e, add-one i)
 
 module _ (s : List ℕ) (u : Progress) (i : ℕ) where
-  pub no_function : {g : TierFn} → g ≡ function_no (row_at s (suc i)).function → g ≡ None → record { lent = lent_of s u.flags; count = u.count; refusal = 16 } ≡ pair (run_of s u) i
+  pub no_function : {g : Option ConsolidationFn} → g ≡ function_no (row_at s (suc i)).function → g ≡ None → record { lent = lent_of s u.flags; count = u.count; refusal = 16 } ≡ pair (run_of s u) i
   unfolding pair pair_by refuse_run row
   no_function e k = rw (sym e ∙ k)
 
-  pub high_stamp : {g : TierFn} (f : ConsolidationFn) → g ≡ function_no (row_at s (suc i)).function → g ≡ Some f
+  pub high_stamp : {g : Option ConsolidationFn} (f : ConsolidationFn) → g ≡ function_no (row_at s (suc i)).function → g ≡ Some f
       → stamps_below (slab_of s (row_at s i)) 0 (slots (slab_of s (row_at s i))) ≡ false
       → record { lent = lent_of s u.flags; count = u.count; refusal = 10 } ≡ pair (run_of s u) i
   unfolding pair pair_by pair_with refuse_run row ring
   high_stamp f e k h = rw (sym e ∙ k, h)
 
-  pub good-pair : {g : TierFn} (f : ConsolidationFn) → g ≡ function_no (row_at s (suc i)).function → g ≡ Some f
+  pub good-pair : {g : Option ConsolidationFn} (f : ConsolidationFn) → g ≡ function_no (row_at s (suc i)).function → g ≡ Some f
       → stamps_below (slab_of s (row_at s i)) 0 (slots (slab_of s (row_at s i))) ≡ true → {v : Run} → v ≡ pair_with true f (run_of s u) i → v ≡ pair (run_of s u) i
   unfolding pair pair_by row ring
   good-pair f e k h m = m ∙ rw (sym e ∙ k, h)

@@ -82,7 +82,7 @@ module _ (s : List ℕ) (i : ℕ) (h : Adjacent s i) (flags : Flags) (f : Consol
 
   -- with what was read of the source
   pub pair-at : {w : Bool} {q : Reading} → w ≡ get_or flags.wrapped i false
-      → q ≡ reading_of (part s d.from (d.to - d.from)) d.sizes w (row_at s i).mark f next.sizes.interval → q.end < 2 ^ 64
+      → q ≡ reading_of (part s d.from (d.to - d.from)) d.sizes.slots d.sizes.series w (row_at s i).mark f next.sizes.interval → q.end < 2 ^ 64
       → PairAt s flags i f (record { from = d.from; to = d.to; reading = q; dest = next })
   unfolding reading_of C.job_of ring row
   pair-at {w} {q} e k l = rw k (record {

@@ -14,10 +14,10 @@ ghost use Rattle.pair.specs.Parts.{run_of, PairAt, Adjacent, marked_if};
 pub struct Progress {
     pub flags: model::Flags,
     pub count: u64,
-    pub outcome: model::Outcome,
+    pub outcome: Result<(), model::Refusal>,
 }
 
-// The pair of a row and the next, whose stamps are all good.
+// The pair of a row and the next, whose stamps are all good. Over bytes: `Adjacent`, which the writers ask for, says that the image is in good order.
 fn pair_at(
     image: &[u8],
     flags: model::Flags,
@@ -28,15 +28,21 @@ fn pair_at(
     requires row_value { stamps_below (slab_of image.now (row_at image.now row)) 0 (slots (slab_of image.now (row_at image.now row))) ≡ true }
     ensures { PairAt image.now flags row f result }
 {
-    let d = lookup::slab_at(image, row);
-    let next = lookup::slab_at(image, row + 1);
+    let opened = lookup::Image { bytes: image };
+    let d = opened.slab_at(row);
+    let next = opened.slab_at(row + 1);
     let r = rows::row_at(image, row);
     let wrapped = lookup::flag(flags, row);
     let from = d.from;
     let to = d.to;
     let z = d.sizes;
     let coarse = next.sizes;
-    let reading = pair_source::reading_of(&image[from..to], z, wrapped, r.mark, f, coarse.interval);
+    let source = ring::Slab {
+        bytes: &image[from..to],
+        slots: z.slots,
+        series: z.series,
+    };
+    let reading = pair_source::reading_of(&source, wrapped, r.mark, f, coarse.interval);
     pair_fill::Pair {
         from: from,
         to: to,
@@ -46,11 +52,17 @@ fn pair_at(
 }
 
 // The mark of a row becomes the stamp, if something was written and nothing refused.
-fn move_mark(image: &mut [u8], row: usize, stamp: u64, writes: u64, outcome: model::Outcome)
+fn move_mark(
+    image: &mut [u8],
+    row: usize,
+    stamp: u64,
+    writes: u64,
+    outcome: Result<(), model::Refusal>,
+)
     requires { row_place row + 64 ≤ length image.old }
     ensures { image.new ≡ marked_if (eqb (outcome_no outcome) 0 && ltb 0 writes) image.old row stamp }
 {
-    let model::Outcome::Accepted = outcome else {
+    let Ok(()) = outcome else {
         return;
     };
     if writes == 0 {
@@ -87,7 +99,7 @@ fn fill_pair(image: &mut [u8], u: Progress, row: usize, f: model::ConsolidationF
     let filling = window_write::Filling {
         wrapped: wrapped,
         writes: 0,
-        outcome: model::Outcome::Accepted,
+        outcome: Ok(()),
     };
     let passed = pair_runs::fill_pair(image, p, filling);
     let done = passed.filling;
@@ -110,23 +122,28 @@ pub fn pair(image: &mut [u8], u: Progress, row: usize) -> Progress
     let flags = u.flags;
     let next = rows::row_at(image, row + 1);
     let function = pair_source::function_of(next.function);
-    let model::TierFn::Some(f) = function else {
+    let Some(f) = function else {
         return Progress {
             flags: flags,
             count: u.count,
-            outcome: model::Outcome::Refused(model::Refusal::NoConsolidationFunction),
+            outcome: Err(model::Refusal::NoConsolidationFunction),
         };
     };
-    let d = lookup::slab_at(image, row);
+    let d = lookup::Image { bytes: image }.slab_at(row);
     let from = d.from;
     let to = d.to;
     let z = d.sizes;
-    let good = pair_source::stamps_below(&image[from..to], z.slots, z.series);
+    let source = ring::Slab {
+        bytes: &image[from..to],
+        slots: z.slots,
+        series: z.series,
+    };
+    let good = pair_source::stamps_below(&source);
     if !good {
         return Progress {
             flags: flags,
             count: u.count,
-            outcome: model::Outcome::Refused(model::Refusal::CorruptedSlab),
+            outcome: Err(model::Refusal::CorruptedSlab),
         };
     }
     fill_pair(image, u, row, f)

@@ -2,8 +2,7 @@
 // another part, one after the other; a refusal ends them. The source's bytes, and all others but the destination's, stay.
 #![tactic(auto)]
 
-ghost use Rattle.std.specs.Prelude.{◌≡◌, ◌+◌, ◌<◌, ◌≤◌, ◌^◌};
-ghost use Rattle.model.specs.declared.Outcome.TheVariants.{Accepted};
+ghost use Rattle.std.specs.Prelude.{◌≡◌, ◌+◌, ◌<◌, ◌≤◌, ◌^◌, Ok};
 ghost use Rattle.model.specs.Window.{window_answer};
 ghost use Rattle.model.specs.Consolidate.{write_answer, fill_window};
 ghost use Rattle.pair_fill.specs.Parts.{Lies, Covers, Keeps, source_in, pair_job, filled_in};
@@ -51,21 +50,17 @@ pub fn fill_window(
     place: model::Place,
 ) -> window_write::Filling
     requires lies { Lies image.old p × Covers (source_in image.old p) p.reading window place }
-    requires outcome_value { (filling.outcome ≡ Accepted) × (filling.writes + p.reading.series ≤ 2 ^ 63) }
+    requires outcome_value { (filling.outcome ≡ Ok tt) × (filling.writes + p.reading.series ≤ 2 ^ 63) }
     ensures result_after { filled_in image.new p result ≡ fill_window (pair_job image.old p) (filled_in image.old p filling) window 0 p.reading.series }
     ensures keeps { Keeps image.old image.new p × (result.writes ≤ filling.writes + p.reading.series) }
 {
-    let q = p.reading;
-    let m = q.series;
     let mut done = filling;
-    let mut column = 0;
-    while column < m {
+    for column in 0..p.reading.series {
         done = fill_column(image, p, done, window, column, place);
         let outcome = done.outcome;
-        let model::Outcome::Accepted = outcome else {
+        let Ok(()) = outcome else {
             return done;
         };
-        column = column + 1;
     }
     done
 }

@@ -6,7 +6,7 @@ use mathlib.Core.Path.{◌≡◌, sym, ap, ◌∙◌, subst}
 use mathlib.Core.Logic.{◌≢◌}
 use mathlib.Core.List.{List, [], ◌∷◌, ◌++◌}
 use Rattle.model.specs.declared.Place.{Place}
-use Rattle.model.specs.Ring.{stamp, walk, first_place, slots}
+use Rattle.model.specs.Ring.{stamp, walk, first_place}
 use Rattle.model.specs.Window.{Job, window_of}
 use Rattle.model.specs.Consolidate.{Filled, next_window, windows_from, fill_window}
 use Rattle.window.specs.declared.Reading.{Reading}

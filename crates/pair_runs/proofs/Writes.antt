@@ -1,4 +1,5 @@
 -- How many writes: no more than the columns of the windows, and never fewer as a filling goes on. Assumes nothing.
+use Rattle.std.specs.Prelude.{Option, Some, None}
 use Prim.Native.Nat.{ℕ, zero, suc, ◌+◌, ◌*◌, ◌≤◌}
 use native.Mathlib.Nat.{mul-suc, mul-le-mul_left}
 use native.Mathlib.Omega.{arith}
@@ -7,8 +8,6 @@ use mathlib.Core.Bool.{Bool, true, false}
 use mathlib.Core.List.{List, [], ◌∷◌}
 use lib.ListN.{length}
 use lib.Ieee.{binary64, to_bits}
-use Rattle.model.specs.declared.End.{End}
-use Rattle.model.specs.declared.End.TheVariants.{At, Missing}
 use Rattle.model.specs.declared.WindowAnswer.{WindowAnswer}
 use Rattle.model.specs.declared.WindowAnswer.TheVariants.{Empty, Number, NothingFinite}
 use Rattle.model.specs.Layout.{fresh_value}
@@ -62,12 +61,12 @@ fill_few q m (w ∷ ws) f =
     let b = fill_few q m ws (fill_window q f w 0 m) in
     record { no_less = omega (arith, a.no_less, b.no_less); no_more = omega (arith, a.no_more, b.no_more, mul-suc m (length ws)) }
 
-few_windows : (q : Job) (k : ℕ) (e : End) → length (windows_from q k e) ≤ k
+few_windows : (q : Job) (k : ℕ) (e : Option ℕ) → length (windows_from q k e) ≤ k
 few_windows q zero e = unfold windows_from in omega arith
-few_windows q (suc k) Missing = unfold windows_from in omega arith
-few_windows q (suc k) (At w) = go (few_windows q k (next_window q (suc w)))
+few_windows q (suc k) None = unfold windows_from in omega arith
+few_windows q (suc k) (Some w) = go (few_windows q k (next_window q (suc w)))
   where
-    go : length (windows_from q k (next_window q (suc w))) ≤ k → length (windows_from q (suc k) (At w)) ≤ suc k
+    go : length (windows_from q k (next_window q (suc w))) ≤ k → length (windows_from q (suc k) (Some w)) ≤ suc k
     go h = unfold windows_from in omega (arith, h)
 
 -- a filling g on the way from f to all that a pair's windows make of it

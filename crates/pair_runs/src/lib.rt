@@ -2,8 +2,7 @@
 // to find the part, once for its window and once for each column. Where they fall, the range is read in parts, strand by strand, each of which has windows that never fall.
 #![tactic(auto)]
 
-ghost use Rattle.std.specs.Prelude.{◌≡◌, ◌+◌, ◌*◌, ◌<◌, ◌≤◌, ◌^◌};
-ghost use Rattle.model.specs.declared.Outcome.TheVariants.{Accepted};
+ghost use Rattle.std.specs.Prelude.{◌≡◌, ◌+◌, ◌*◌, ◌<◌, ◌≤◌, ◌^◌, Ok};
 ghost use Rattle.model.specs.Ring.{walk};
 ghost use Rattle.strand_theory.specs.Cuts.{Passes};
 ghost use Rattle.pair_fill.specs.Parts.{Lies, Keeps, pair_job, filled_in};
@@ -25,7 +24,7 @@ fn fill_runs(
     place: model::Place,
 ) -> window_write::Filling
     requires lies { Lies image.old p × (place.slot < p.reading.slots) × (place.left ≤ p.reading.slots) }
-    requires outcome_value { (filling.outcome ≡ Accepted) × (filling.writes + p.reading.series * p.reading.slots ≤ 2 ^ 63) }
+    requires outcome_value { (filling.outcome ≡ Ok tt) × (filling.writes + p.reading.series * p.reading.slots ≤ 2 ^ 63) }
     requires rest { Rest (pair_job image.old p) p.reading.series (all_filled image.old p filling) (filled_in image.old p filling) (walk p.reading.slots place.slot place.left) }
     ensures result_after { filled_in image.new p result ≡ all_filled image.old p filling }
     ensures keeps { Keeps image.old image.new p × (result.writes ≤ filling.writes + p.reading.series * p.reading.slots) }
@@ -34,23 +33,17 @@ fn fill_runs(
     let from = p.from;
     let to = p.to;
     let mut done = filling;
-    let mut slot = place.slot;
-    let mut left = place.left;
-    while 0 < left {
-        let here = model::Place {
-            slot: slot,
-            left: left,
-        };
+    let mut here = place;
+    // A `while`: a run ends at the first slot of a later window, and its length is not known before.
+    while 0 < here.left {
         let r = window_runs::next_run(&image[from..to], q, here);
         let run = r.run;
-        let rest = r.rest;
         done = pair_fill::fill_window(image, p, done, r.window, run);
         let outcome = done.outcome;
-        let model::Outcome::Accepted = outcome else {
+        let Ok(()) = outcome else {
             return done;
         };
-        slot = rest.slot;
-        left = rest.left;
+        here = r.rest;
     }
     done
 }
@@ -82,7 +75,7 @@ fn part_of(p: pair_fill::Pair, start: u64, end: u64) -> pair_fill::Pair
 // Every window of a pair, strand by strand: the greatest part of what is left of the range whose windows never fall in reading order, then the next.
 pub fn fill_pair(image: &mut [u8], p: pair_fill::Pair, filling: window_write::Filling) -> Passed
     requires lies { Lies image.old p }
-    requires outcome_value { (filling.outcome ≡ Accepted) × (filling.writes + 2 * (p.reading.series * p.reading.slots) ≤ 2 ^ 63) }
+    requires outcome_value { (filling.outcome ≡ Ok tt) × (filling.writes + 2 * (p.reading.series * p.reading.slots) ≤ 2 ^ 63) }
     ensures filling_after { filled_in image.new p result.filling ≡ all_filled image.old p filling }
     ensures keeps { Keeps image.old image.new p × (result.filling.writes ≤ filling.writes + p.reading.series * p.reading.slots) }
     ensures passes { Passes (pair_job image.old p) result.strands }
@@ -90,27 +83,29 @@ pub fn fill_pair(image: &mut [u8], p: pair_fill::Pair, filling: window_write::Fi
     let q = p.reading;
     let from = p.from;
     let to = p.to;
-    let first = ring::first_place(&image[from..to], q.slots, q.series, q.wrapped);
+    let source = window::source_of(&image[from..to], q);
+    let first = source.first_place(q.wrapped);
     let mut start = q.start;
     let mut done = filling;
     let mut strands: u64 = 0;
+    // A `while`: a turn does a part of the range, whose end comes from the slots.
     while start < q.end {
         let k = window_runs::next_strand(&image[from..to], q, start, first);
         let part = part_of(p, start, k.end);
         let place = k.place;
         done = fill_runs(image, part, done, place);
-        strands = strands + 1;
+        strands += 1;
         let outcome = done.outcome;
-        let model::Outcome::Accepted = outcome else {
+        let Ok(()) = outcome else {
             return Passed {
                 filling: done,
-                strands: strands,
+                strands,
             };
         };
         start = k.end;
     }
     Passed {
         filling: done,
-        strands: strands,
+        strands,
     }
 }

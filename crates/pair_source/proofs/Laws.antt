@@ -1,4 +1,5 @@
 -- A row's function by its number, the test of the stamps by one slot more, and the range by the code's cases. Assumes nothing.
+use Rattle.std.specs.Prelude.{Option, Some, None, unwrap_or}
 use Prim.Native.Nat.{ℕ, zero, suc, ◌+◌, ◌-◌, ◌^◌, ◌≤◌, ◌<◌}
 use native.Mathlib.Omega.{arith}
 use native.Mathlib.Numerals.{add-one}
@@ -6,9 +7,6 @@ use mathlib.Core.Path.{◌≡◌, refl, sym, ap, ◌∙◌}
 use mathlib.Core.Bool.{Bool, true, false}
 use mathlib.Core.List.{List}
 use borrow.Author.Tests.{lt-ltb, le-ltb}
-use Rattle.model.specs.declared.End.{End}
-use Rattle.model.specs.declared.End.TheVariants.{At, Missing}
-use Rattle.model.specs.declared.TierFn.TheVariants.{None}
 use Rattle.model.specs.Words.{function_no}
 use Rattle.model.specs.Ring.{Ring, stamp, oldest, newest}
 use Rattle.model.specs.Window.{window_of}
@@ -44,19 +42,24 @@ module _ (s : List ℕ) (i n : ℕ) {total : Bool} (k : stamps_below s i (n - i)
 
 -- ---- the range
 
-pub zero_missing : {e : End} → e ≡ Missing → 0 ≡ or_zero e
+pub zero_missing : {e : Option ℕ} → e ≡ None → 0 ≡ or_zero e
 unfolding or_zero
 zero_missing h = rw h
 
-pub zero_at : {e : End} (t : ℕ) → e ≡ At t → t ≡ or_zero e
+pub zero_at : {e : Option ℕ} (t : ℕ) → e ≡ Some t → t ≡ or_zero e
 unfolding or_zero
 zero_at t h = rw h
 
-pub after_missing : {e : End} → e ≡ Missing → 0 ≡ end_after e
+-- by the library's method
+pub unwrapped : (e : Option ℕ) → unwrap_or e 0 ≡ or_zero e
+unwrapped None = zero_missing refl
+unwrapped (Some t) = zero_at t refl
+
+pub after_missing : {e : Option ℕ} → e ≡ None → 0 ≡ end_after e
 unfolding end_after
 after_missing h = rw h
 
-pub after-at : {e : End} (t : ℕ) → e ≡ At t → t + 1 ≡ end_after e
+pub after-at : {e : Option ℕ} (t : ℕ) → e ≡ Some t → t + 1 ≡ end_after e
 unfolding end_after
 after-at t h = rw (h, add-one t)
 
@@ -65,7 +68,7 @@ unfolding start_of
 start_mark zero long r h e = absurd (h refl)
 start_mark (suc k) long r h e = e
 
-pub start_oldest : (mark long : ℕ) (r : Ring) {e : End} {t : ℕ} → mark ≡ 0 → e ≡ oldest r → t ≡ or_zero e → t ≡ start_of mark long r
+pub start_oldest : (mark long : ℕ) (r : Ring) {e : Option ℕ} {t : ℕ} → mark ≡ 0 → e ≡ oldest r → t ≡ or_zero e → t ≡ start_of mark long r
 unfolding start_of
 start_oldest mark long r z e h = rw z (h ∙ ap or_zero e)
 

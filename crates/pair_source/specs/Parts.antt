@@ -4,14 +4,13 @@ use Rattle.model.specs.declared.ConsolidationFn.{ConsolidationFn}
 use Rattle.model.specs.Ring.{newest}
 use Rattle.model.specs.Consolidate.{start_of, end_after}
 use Rattle.ring.specs.Parts.{ring_of}
-use Rattle.ring.specs.declared.Sizes.{Sizes}
 use Rattle.window.specs.declared.Reading.{Reading}
 
--- of the slab s with sizes z, for windows of this length
-unfoldable pub reading_of : List ℕ → Sizes → Bool → (mark : ℕ) → ConsolidationFn → (long : ℕ) → Reading
-reading_of s z w mark f long = record {
-  slots = z.slots;
-  series = z.series;
+-- of the slab s with n slots and m series, for windows of this length
+unfoldable pub reading_of : List ℕ → ℕ → ℕ → Bool → (mark : ℕ) → ConsolidationFn → (long : ℕ) → Reading
+reading_of s n m w mark f long = record {
+  slots = n;
+  series = m;
   wrapped = w;
   function = f;
   long = long;

@@ -1,11 +1,9 @@
 -- One tier pair of a run: what it makes of its destination, and the pair's call: its check, where its reading starts, its closing. The laws of what it makes
 -- stand in proofs/Pair.antt. Assumes nothing.
-use Rattle.std.specs.Prelude.{ℕ, zero, suc, ◌+◌, ◌*◌, ◌^◌, ◌<◌, ◌≡◌, Bool, true, List, ltb}
+use Rattle.std.specs.Prelude.{ℕ, zero, suc, ◌+◌, ◌*◌, ◌^◌, ◌<◌, ◌≡◌, Bool, true, List, ltb, Some}
 use Rattle.std.proofs.Common.{zero-add, arith}
 use Rattle.std.proofs.Math.Path.{refl}
-use Rattle.model.specs.declared.End.TheVariants.{At}
 use Rattle.model.specs.declared.ConsolidationFn.{ConsolidationFn}
-use Rattle.model.specs.declared.TierFn.TheVariants.{Some}
 use Rattle.model.specs.Words.{function_no}
 use Rattle.model.specs.Ring.{Ring, stamp, newest, oldest}
 use Rattle.model.specs.Window.{window_of}
@@ -41,7 +39,7 @@ unfolding pair pair_by pair_with
 pair_is v i {n = n} f s = rw (f, s.sound.slots-is, stamps_below_lem (ring v.lent i).slab 0 n (λ x l. s.low x (omega arith)))
 
 -- where its reading starts: at the oldest stamp, or at the start of the mark's window
-pub start_first : (x long y : ℕ) (r : Ring) → x ≡ 0 → oldest r ≡ At y → start_of x long r ≡ y
+pub start_first : (x long y : ℕ) (r : Ring) → x ≡ 0 → oldest r ≡ Some y → start_of x long r ≡ y
 unfolding start_of or_zero
 start_first x long y r e o = rw (e, o)
 

@@ -1,4 +1,5 @@
 -- The outcome of `query` and of `query_auto`, one law a way: opening's refusal, 11, 14, 15, the answer. Assumes nothing.
+use Rattle.std.specs.Prelude.{Some, None, Err}
 use Prim.Native.Nat.{ℕ, zero, suc, ◌+◌, ◌≤◌, ◌<◌}
 use native.Mathlib.Omega.{arith}
 use mathlib.Core.Path.{◌≡◌, refl, sym, ◌∙◌}
@@ -8,7 +9,6 @@ use mathlib.Core.List.{List, []}
 use lib.ListN.{length}
 use Rattle.model.specs.declared.Refusal.{Refusal}
 use Rattle.model.specs.declared.Refusal.TheVariants.{InvalidHandle, InvalidTier, InvalidTimeRange}
-use Rattle.model.specs.declared.Queried.TheVariants.{Refused}
 use Rattle.model.specs.Words.{number_of}
 use Rattle.model.specs.Image.{unless, first, row_at, row_count, rows, tiers_of, open_check}
 use Rattle.model.specs.Lent.{Lent, tiers, first_row, row_no}
@@ -19,7 +19,6 @@ use Rattle.image_theory.specs.Good.{good_open}
 use Rattle.image_theory.specs.Tiers.{tier-row, some_tier}
 use Rattle.rows.specs.First.{first_stop, refusal_no}
 use Rattle.lookup.specs.Parts.{finest_of}
-use Rattle.lookup.specs.declared.Finest.TheVariants.{At, Missing}
 use Rattle.lookup.specs.Handle.{handle_none, handle_at, handle_in, row_there}
 use Rattle.lookup.proofs.Laws.{few_rows}
 use Rattle.tiers.specs.Reached.{lent_by}
@@ -31,7 +30,7 @@ module _ (s : List ℕ) (bs : List Bool) (k c start end : ℕ) where
   l = lent_by s bs
 
   -- a check that gives a refusal's number
-  refused_on_lem : (w : Refusal) (j n : ℕ) → n ≡ number_of w → replied_by s (Refused w) ≡ query_on n l k c j start end
+  refused_on_lem : (w : Refusal) (j n : ℕ) → n ≡ number_of w → replied_by s (Err w) ≡ query_on n l k c j start end
   unfolding replied_by query_on
   refused_on_lem w j zero e = absurd (refusal_no w (sym e))
   refused_on_lem w j (suc n) e = rw (← e)
@@ -48,25 +47,25 @@ module _ (s : List ℕ) (bs : List Bool) (k c start end : ℕ) where
   auto_unopened (suc n) z e = rw (← e, first_stop (suc n) _ z)
 
   module _ (w : Refusal) (e : number_of w ≡ open_check s) where
-    pub not_opened : (j : ℕ) → replied_by s (Refused w) ≡ query l k c j start end
+    pub not_opened : (j : ℕ) → replied_by s (Err w) ≡ query l k c j start end
     unfolding query query_check
     not_opened j = refused_on_lem w j (query_check l k c j start end) (rw (← e) (first_stop (number_of w) _ (refusal_no w)))
 
-    pub auto_not-opened : replied_by s (Refused w) ≡ query_auto l k c start end
+    pub auto_not-opened : replied_by s (Err w) ≡ query_auto l k c start end
     unfolding query_auto auto_check
     auto_not-opened = refused_on_lem w (choose l k start end) (auto_check l k c start end) (rw (← e) (first_stop (number_of w) _ (refusal_no w)))
 
   module _ (h : open_check s ≡ 0) where
-    pub bad_handle : finest_of s k c ≡ Missing → (j : ℕ) → replied_by s (Refused InvalidHandle) ≡ query l k c j start end
+    pub bad_handle : finest_of s k c ≡ None → (j : ℕ) → replied_by s (Err InvalidHandle) ≡ query l k c j start end
     unfolding query query_check first unless
     bad_handle e j = refused_on_lem InvalidHandle j (query_check l k c j start end) (rw (h, handle_none l k c e))
 
-    pub auto_bad_handle : finest_of s k c ≡ Missing → replied_by s (Refused InvalidHandle) ≡ query_auto l k c start end
+    pub auto_bad_handle : finest_of s k c ≡ None → replied_by s (Err InvalidHandle) ≡ query_auto l k c start end
     unfolding query_auto auto_check first unless
     auto_bad_handle e = refused_on_lem InvalidHandle (choose l k start end) (auto_check l k c start end) (rw (h, handle_none l k c e))
 
     -- i is the row of the schema's tier 0
-    module _ {i : ℕ} (at : finest_of s k c ≡ At i) where
+    module _ {i : ℕ} (at : finest_of s k c ≡ Some i) where
       ok : handle_ok l k c ≡ true
       ok = (handle_at l k c at).0
 
@@ -76,15 +75,15 @@ module _ (s : List ℕ) (bs : List Bool) (k c start end : ℕ) where
       pub has-tier : 0 < length (tiers_of k (rows s))
       has-tier = let g = good_open s h in some_tier s g.shape_is g.layout_is k (handle_in l k c ok).0
 
-      pub bad_tier : (j : ℕ) → length (tiers_of k (rows s)) ≤ j → replied_by s (Refused InvalidTier) ≡ query l k c j start end
+      pub bad_tier : (j : ℕ) → length (tiers_of k (rows s)) ≤ j → replied_by s (Err InvalidTier) ≡ query l k c j start end
       unfolding query query_check first unless tiers
       bad_tier j p = refused_on_lem InvalidTier j (query_check l k c j start end) (rw (h, ok, no_lt j (length (tiers_of k (rows s))) p))
 
-      pub bad_range : (j : ℕ) → j < length (tiers_of k (rows s)) → end ≤ start → replied_by s (Refused InvalidTimeRange) ≡ query l k c j start end
+      pub bad_range : (j : ℕ) → j < length (tiers_of k (rows s)) → end ≤ start → replied_by s (Err InvalidTimeRange) ≡ query l k c j start end
       unfolding query query_check first unless tiers
       bad_range j p q = refused_on_lem InvalidTimeRange j (query_check l k c j start end) (rw (h, ok, yes_lt j (length (tiers_of k (rows s))) p, no_lt start end q))
 
-      pub auto_bad_range : end ≤ start → replied_by s (Refused InvalidTimeRange) ≡ query_auto l k c start end
+      pub auto_bad_range : end ≤ start → replied_by s (Err InvalidTimeRange) ≡ query_auto l k c start end
       unfolding query_auto auto_check first unless
       auto_bad_range q = refused_on_lem InvalidTimeRange (choose l k start end) (auto_check l k c start end) (rw (h, ok, no_lt start end q))
 
@@ -103,7 +102,7 @@ module _ (s : List ℕ) (bs : List Bool) (k c start end : ℕ) where
 
 -- ---- whatever the flags: `at` says that i is the row of the handle's finest tier
 
-module _ (s : List ℕ) (k c : ℕ) (h : open_check s ≡ 0) {i : ℕ} (at : finest_of s k c ≡ At i) where
+module _ (s : List ℕ) (k c : ℕ) (h : open_check s ≡ 0) {i : ℕ} (at : finest_of s k c ≡ Some i) where
   pub finest-is : i ≡ first_row k (rows s)
   finest-is = first-is s [] k c 0 0 h at
 

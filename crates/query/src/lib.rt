@@ -4,109 +4,76 @@
 #![tactic(auto)]
 
 ghost use Rattle.std.specs.Prelude.{◌≡◌};
-ghost use Rattle.model.specs.Image.{open_check};
 ghost use Rattle.model.specs.Query.{query, query_auto, replied_by};
 ghost use Rattle.lookup.specs.Parts.{lent_of};
 ghost use Rattle.flag_bits.specs.One.{lent_at};
 ghost use Rattle.query.specs.Sought.{SoughtIs};
 
-// The row that a query reads. Or why it is refused.
-#[derive(Clone, Copy)]
-pub enum Sought {
-    Row(usize),
-    Refused(model::Refusal),
-}
-
 // The row of a handle's tier, once opening's check has passed: 11, 14, 15, or the row.
-pub fn seek(image: &[u8], handle: model::SeriesHandle, tier: u32, start: u64, end: u64) -> Sought
-    requires { open_check image.now ≡ 0 }
-    ensures { SoughtIs image.now handle.schema handle.column tier start end result }
-{
-    let schema = handle.schema as u64;
-    let lookup::Finest::At(first) = lookup::finest_row(image, schema, handle.column as u64) else {
-        return Sought::Refused(model::Refusal::InvalidHandle);
-    };
-    let there = tiers::has_tier(image, schema, first, tier as usize);
-    if !there {
-        return Sought::Refused(model::Refusal::InvalidTier);
-    }
-    if start < end {
-        let row = first + (tier as usize);
-        return Sought::Row(row);
-    }
-    Sought::Refused(model::Refusal::InvalidTimeRange)
-}
-
-// Queries a tier, once opening's check has passed.
-fn query_opened(
-    image: &[u8],
-    flags: model::Flags,
+pub fn seek(
+    image: &lookup::Image,
     handle: model::SeriesHandle,
     tier: u32,
     start: u64,
     end: u64,
-) -> model::Queried
-    requires { open_check image.now ≡ 0 }
-    ensures { replied_by image.now result ≡ query (lent_of image.now flags) handle.schema handle.column tier start end }
+) -> Result<usize, model::Refusal>
+    ensures { SoughtIs image.now.bytes.now handle.schema handle.column tier start end result }
 {
-    let target = seek(image, handle, tier, start, end);
-    match target {
-        Sought::Row(row) => {
-            let wrapped = lookup::flag(flags, row);
-            let found = tiers::answer(image, row, wrapped, handle.column, tier, start, end);
-            model::Queried::Answer(found)
-        }
-        Sought::Refused(r) => model::Queried::Refused(r),
+    let schema = handle.schema as u64;
+    let Some(first) = image.finest_row(schema, handle.column as u64) else {
+        return Err(model::Refusal::InvalidHandle);
+    };
+    let there = tiers::has_tier(image, schema, first, tier as usize);
+    if !there {
+        return Err(model::Refusal::InvalidTier);
     }
+    if start < end {
+        let row = first + (tier as usize);
+        return Ok(row);
+    }
+    Err(model::Refusal::InvalidTimeRange)
 }
 
-// The same with the flags as a number, of which one is read.
+// Queries a tier, once opening's check has passed, with the flags as a number, of which one is read.
 pub fn query_numbered(
-    image: &[u8],
+    image: &lookup::Image,
     flags: u32,
     handle: model::SeriesHandle,
     tier: u32,
     start: u64,
     end: u64,
-) -> model::Queried
-    requires { open_check image.now ≡ 0 }
-    ensures { replied_by image.now result ≡ query (lent_at image.now flags) handle.schema handle.column tier start end }
+) -> Result<model::Found, model::Refusal>
+    ensures { replied_by image.now.bytes.now result ≡ query (lent_at image.now.bytes.now flags) handle.schema handle.column tier start end }
 {
-    let target = seek(image, handle, tier, start, end);
-    match target {
-        Sought::Row(row) => {
-            let wrapped = flag_bits::flag_at(flags, row);
-            let found = tiers::answer(image, row, wrapped, handle.column, tier, start, end);
-            model::Queried::Answer(found)
-        }
-        Sought::Refused(r) => model::Queried::Refused(r),
-    }
+    let row = seek(image, handle, tier, start, end)?;
+    let wrapped = flag_bits::flag_at(flags, row);
+    let found = tiers::answer(image, row, wrapped, handle.column, tier, start, end);
+    Ok(found)
 }
 
 // Queries the tier that covers the range best, once opening's check has passed, with the flags as a number.
 pub fn auto_numbered(
-    image: &[u8],
+    image: &lookup::Image,
     flags: u32,
     handle: model::SeriesHandle,
     start: u64,
     end: u64,
-) -> model::Queried
-    requires { open_check image.now ≡ 0 }
-    ensures { replied_by image.now result ≡ query_auto (lent_at image.now flags) handle.schema handle.column start end }
+) -> Result<model::Found, model::Refusal>
+    ensures { replied_by image.now.bytes.now result ≡ query_auto (lent_at image.now.bytes.now flags) handle.schema handle.column start end }
 {
     let schema = handle.schema as u64;
     let column = handle.column;
-    let lookup::Finest::At(first) = lookup::finest_row(image, schema, column as u64) else {
-        return model::Queried::Refused(model::Refusal::InvalidHandle);
+    let Some(first) = image.finest_row(schema, column as u64) else {
+        return Err(model::Refusal::InvalidHandle);
     };
     if start >= end {
-        return model::Queried::Refused(model::Refusal::InvalidTimeRange);
+        return Err(model::Refusal::InvalidTimeRange);
     }
     let chosen = tiers::choose(image, flags, schema, first, start, end);
     let tier = chosen.tier as u32;
     let reach = chosen.reach;
     let found = tiers::answer_of(reach, column, tier, start, end);
-    model::Queried::Answer(found)
+    Ok(found)
 }
 
 // Queries a series at a tier.
@@ -117,14 +84,12 @@ pub fn query(
     tier: u32,
     start: u64,
     end: u64,
-) -> model::Queried
+) -> Result<model::Found, model::Refusal>
     ensures { replied_by image.now result ≡ query (lent_of image.now flags) handle.schema handle.column tier start end }
 {
-    let opened = image_checked::check_image(image);
-    if let model::Outcome::Refused(why) = opened {
-        return model::Queried::Refused(why);
-    }
-    query_opened(image, flags, handle, tier, start, end)
+    let image = lookup::Image::checked(image)?;
+    let number = flag_bits::number_of(flags);
+    query_numbered(&image, number, handle, tier, start, end)
 }
 
 // Queries a series at the tier that covers the range best.
@@ -134,13 +99,10 @@ pub fn query_auto(
     handle: model::SeriesHandle,
     start: u64,
     end: u64,
-) -> model::Queried
+) -> Result<model::Found, model::Refusal>
     ensures { replied_by image.now result ≡ query_auto (lent_of image.now flags) handle.schema handle.column start end }
 {
-    let opened = image_checked::check_image(image);
-    if let model::Outcome::Refused(why) = opened {
-        return model::Queried::Refused(why);
-    }
+    let image = lookup::Image::checked(image)?;
     let number = flag_bits::number_of(flags);
-    auto_numbered(image, number, handle, start, end)
+    auto_numbered(&image, number, handle, start, end)
 }

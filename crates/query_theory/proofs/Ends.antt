@@ -2,9 +2,8 @@
 -- Assumes nothing.
 use Prim.Native.Nat.{ℕ, zero, suc, ◌-◌}
 use Rattle.std.proofs.Common.{zero-add, arith, append_assoc}
-use Rattle.std.specs.Prelude.{◌≡◌, ◌≢◌, Bool, true, false, List, [], ◌∷◌, ◌++◌}
+use Rattle.std.specs.Prelude.{◌≡◌, ◌≢◌, Bool, true, false, List, [], ◌∷◌, ◌++◌, Some}
 use Rattle.std.proofs.Math.Path.{refl}
-use Rattle.model.specs.declared.End.TheVariants.{At}
 use Rattle.model.specs.Ring.{Ring, cursor, stamp, order, end_of, or_stamp, first_stamp, oldest, newest}
 use Rattle.ring_theory.specs.Numbers.{upto}
 use Rattle.ring_theory.specs.Sound.{Sound}
@@ -27,7 +26,7 @@ found_last s (x ∷ xs) i h = go (stamp s x) (found_last s xs i h)
     go (suc t) l = unfold or_stamp in (λ e. omega (arith, e))
 
 -- an end by its stamp
-end_there : (t : ℕ) → t ≢ 0 → end_of t ≡ At t
+end_there : (t : ℕ) → t ≢ 0 → end_of t ≡ Some t
 unfolding end_of
 end_there zero h = absurd (h refl)
 end_there (suc t) h = refl

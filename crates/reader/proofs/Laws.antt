@@ -1,4 +1,5 @@
 -- A slab that can be read, by the numbers that the code compares; and one turn of the reader's loop. Assumes nothing.
+use Rattle.std.specs.Prelude.{Some, None}
 use Prim.Native.Nat.{ℕ, suc, ◌+◌, ◌-◌, ◌*◌, ◌/◌, ◌%◌, ◌^◌, ◌≤◌, ◌<◌}
 use native.Mathlib.Nat.{mul_assoc, mul-suc, mul-le-mul}
 use native.Mathlib.Numerals.{add-one}
@@ -10,7 +11,6 @@ use lib.Dec.{leb, ltb}
 use lib.ListN.{length}
 use Rattle.model.specs.declared.Place.{Place}
 use Rattle.model.specs.declared.Stepped.{Stepped}
-use Rattle.model.specs.declared.Next.TheVariants.{Handed, Finished}
 use Rattle.model.specs.Bytes.{get}
 use Rattle.model.specs.Layout.{slab_length, stamps_at, column_at, column_behind, stamps_behind, directory}
 use Rattle.model.specs.Ring.{slots, series, stamp, cell, is_nan_bits}
@@ -117,11 +117,11 @@ module _ {s : List ℕ} {c start end n m i k : ℕ} {x : Stepped} {t j : ℕ} (h
     pub skip_nan : nan ≡ true → step_from s c start end j (k - 1) ≡ x
     skip_nan e = skipped (handed-is ∙ rw e)
 
-    pub hand_out : nan ≡ false → stepped (Handed (record { stamp = t; value = v })) j (k - 1) ≡ x
+    pub hand_out : nan ≡ false → stepped (Some (record { stamp = t; value = v })) j (k - 1) ≡ x
     unfolding handed
     hand_out e = sym (by-test (k - 1) one_less ∙ rw (handed-is, e, ← h.stamp-is, ← v_is))
 
 -- no slot is left
-pub finished : (s : List ℕ) (c start end i : ℕ) {k : ℕ} {x : Stepped} → step_from s c start end i k ≡ x → k ≡ 0 → stepped Finished i 0 ≡ x
+pub finished : (s : List ℕ) (c start end i : ℕ) {k : ℕ} {x : Stepped} → step_from s c start end i k ≡ x → k ≡ 0 → stepped None i 0 ≡ x
 unfolding step_from
 finished s c start end i h e = rw e at h

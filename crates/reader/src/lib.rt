@@ -46,13 +46,11 @@ pub fn step_from(
     ensures { result ≡ step_from slab.now column start end place.slot place.left }
 {
     let mut slot = place.slot;
-    let mut left = place.left;
-    while 0 < left {
+    for left in (0..place.left).rev() {
         let here = slot;
         let at = ring::stamp_place(n, m, here);
         let stamp = field::get_u64(slab, at);
         slot = ring::next_slot(n, here);
-        left = left - 1;
         if stamp < start {
             continue;
         }
@@ -66,22 +64,13 @@ pub fn step_from(
             continue;
         }
         return model::Stepped {
-            next: model::Next::Handed(model::Point {
-                stamp: stamp,
-                value: value,
-            }),
-            place: model::Place {
-                slot: slot,
-                left: left,
-            },
+            next: Some(model::Point { stamp, value }),
+            place: model::Place { slot, left },
         };
     }
     model::Stepped {
-        next: model::Next::Finished,
-        place: model::Place {
-            slot: slot,
-            left: 0,
-        },
+        next: None,
+        place: model::Place { slot, left: 0 },
     }
 }
 
@@ -96,7 +85,7 @@ pub fn step(slab: &[u8], column: u32, start: u64, end: u64, place: model::Place)
         return step_from(slab, n, m, column as usize, start, end, place);
     }
     model::Stepped {
-        next: model::Next::Finished,
+        next: None,
         place: model::Place {
             slot: place.slot,
             left: 0,

@@ -1,4 +1,5 @@
 -- A slab that was lent on and written is the model's write to its ring; the answer of `record`, one law a way. Assumes nothing.
+use Rattle.std.specs.Prelude.{Some, None}
 use Prim.Native.Nat.{ℕ, ◌+◌, ◌-◌, ◌≤◌}
 use native.Mathlib.Omega.{arith}
 use mathlib.Core.Path.{◌≡◌, ap, ◌∙◌}
@@ -13,7 +14,6 @@ use Rattle.model.specs.Record.{stamp_ok, takes, record_check}
 use Rattle.laws.specs.Bytes.{lent-splice}
 use Rattle.ring.specs.Parts.{ring_of}
 use Rattle.lookup.specs.Parts.{SlabAt, finest_of}
-use Rattle.lookup.specs.declared.Finest.TheVariants.{At, Missing}
 use Rattle.lookup.specs.Handle.{handle_none, handle_at, row_there, takes_at}
 use Rattle.lookup.proofs.Laws.{few_rows, part-is}
 use Rattle.record.specs.Ready.{lent_by, ReadyAt, RowWritten}
@@ -40,11 +40,11 @@ module _ {s : List ℕ} {i from to n m d : ℕ} (p : SlabAt s i from to n m d) w
 -- ---- the answer
 
 module _ (s : List ℕ) (k c v t : ℕ) (h : open_check s ≡ 0) where
-  pub refused_handle : finest_of s k c ≡ Missing → (bs : List Bool) → 11 ≡ record_check (lent_by s bs) k c v t
+  pub refused_handle : finest_of s k c ≡ None → (bs : List Bool) → 11 ≡ record_check (lent_by s bs) k c v t
   unfolding record_check first unless
   refused_handle e bs = rw (h, handle_none (lent_by s bs) k c e)
 
-  module _ {i : ℕ} (e : finest_of s k c ≡ At i) where
+  module _ {i : ℕ} (e : finest_of s k c ≡ Some i) where
     pub refused_value : is_infinite v ≡ true → (bs : List Bool) → 12 ≡ record_check (lent_by s bs) k c v t
     unfolding record_check first unless
     refused_value a bs = rw (h, (handle_at (lent_by s bs) k c e).0, a)

@@ -1,6 +1,6 @@
 -- What `ready` and `store` leave: the row of a value's ring or its refusal, whatever the flags; a ring written, by its one flag. Together they are the outcome of
 -- `record`. Assumes nothing.
-use Rattle.std.specs.Prelude.{ℕ, zero, suc, ◌<◌, ◌≡◌, refl, ◌≢◌, Bool, true, false, ◌||◌, cond, List, [], get_or, set}
+use Rattle.std.specs.Prelude.{ℕ, zero, suc, ◌<◌, ◌≡◌, refl, ◌≢◌, Bool, true, false, ◌||◌, cond, List, [], get_or, set, Some, Result, Ok, Err}
 use Rattle.std.proofs.Math.Nat.{add-zero}
 use Rattle.std.proofs.Common.{sym, ap, ◌∙◌}
 use Rattle.std.proofs.Math.Bool.{or-true, or-false}
@@ -15,10 +15,7 @@ use Rattle.ring_theory.specs.Write.{write-is, flag_is}
 use Rattle.rows.specs.First.{refusal_no}
 use Rattle.ring.specs.Parts.{one}
 use Rattle.lookup.specs.Parts.{finest_of}
-use Rattle.lookup.specs.declared.Finest.TheVariants.{At}
 use Rattle.lookup.specs.Handle.{handle_at}
-use Rattle.record.specs.declared.Target.{Target}
-use Rattle.record.specs.declared.Target.TheVariants as R
 use Rattle.record.specs.Done.{RecordDone}
 
 abbrev pub lent_by : List ℕ → List Bool → Lent
@@ -27,19 +24,19 @@ lent_by s bs = record { image = s; flags = bs }
 -- the value v for column c of schema k at stamp t is accepted, for the ring of row i
 pub record ReadyAt (s : List ℕ) (k c v t i : ℕ) : Type 0 where
   pub opened : open_check s ≡ 0
-  pub row_is : finest_of s k c ≡ At i
+  pub row_is : finest_of s k c ≡ Some i
   pub few_rows : i < 32
   pub accepted : (bs : List Bool) → record_check (lent_by s bs) k c v t ≡ 0
 
-abbrev pub Readied : List ℕ → ℕ → ℕ → ℕ → ℕ → Target → Type 0
-Readied s k c v t (R.Row i) = ReadyAt s k c v t i
-Readied s k c v t (R.Refused r) = (bs : List Bool) → number_of r ≡ record_check (lent_by s bs) k c v t
+abbrev pub Readied : List ℕ → ℕ → ℕ → ℕ → ℕ → Result ℕ Refusal → Type 0
+Readied s k c v t (Ok i) = ReadyAt s k c v t i
+Readied s k c v t (Err r) = (bs : List Bool) → number_of r ≡ record_check (lent_by s bs) k c v t
 
 -- by the answer's case
-pub row_ready : {s : List ℕ} {k c v t i : ℕ} {r : Target} → r ≡ R.Row i → Readied s k c v t r → ReadyAt s k c v t i
+pub row_ready : {s : List ℕ} {k c v t i : ℕ} {r : Result ℕ Refusal} → r ≡ Ok i → Readied s k c v t r → ReadyAt s k c v t i
 row_ready e h = rw e at h
 
-pub refusal_ready : (s : List ℕ) (k c v t : ℕ) {r : Target} {n : Refusal} → r ≡ R.Refused n → Readied s k c v t r → Readied s k c v t (R.Refused n)
+pub refusal_ready : (s : List ℕ) (k c v t : ℕ) {r : Result ℕ Refusal} {n : Refusal} → r ≡ Err n → Readied s k c v t r → Readied s k c v t (Err n)
 refusal_ready s k c v t e h = rw e at h
 
 -- the ring of row i of s, with the flag w, written: u and the flag b
@@ -72,7 +69,7 @@ module _ (s : List ℕ) (bs : List Bool) (k c v t : ℕ) where
   refused_by zero z e = absurd (z refl)
   refused_by (suc n) z e = record { answer_is = e; lent_is = unfold record_on in (rw (← e) refl) }
 
-  pub refused : (r : Refusal) → Readied s k c v t (R.Refused r) → RecordDone (lent_by s bs) k c v t (number_of r) (lent_by s bs)
+  pub refused : (r : Refusal) → Readied s k c v t (Err r) → RecordDone (lent_by s bs) k c v t (number_of r) (lent_by s bs)
   refused r e = refused_by (number_of r) (refusal_no r) (e bs)
 
   pub recorded : {u : List ℕ} {i : ℕ} {w b : Bool} → ReadyAt s k c v t i → RowWritten s u i (one c v) t w b → w ≡ get_or bs i false

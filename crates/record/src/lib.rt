@@ -12,13 +12,6 @@ ghost use Rattle.flag_bits.specs.One.{lent_at};
 ghost use Rattle.record.specs.Done.{RecordDone};
 ghost use Rattle.record.specs.Ready.{Readied, RowWritten};
 
-// The answer, and the flags after the call.
-#[derive(Clone, Copy)]
-pub struct Recorded {
-    pub outcome: model::Outcome,
-    pub flags: model::Flags,
-}
-
 // Stores one value in a row's ring, as if its flag were `wrapped`. Answers the flag after it.
 pub fn store(
     image: &mut [u8],
@@ -32,53 +25,52 @@ pub fn store(
     requires row_bound { (row < row_count image.old) × (column < (row_at image.old row).series) }
     ensures { RowWritten image.old image.new row (one column value) stamp wrapped result }
 {
-    let slab = lookup::slab_at(image, row);
+    let slab = lookup::Image { bytes: image }.slab_at(row);
     let from = slab.from;
     let to = slab.to;
     let z = slab.sizes;
     ring_write::write(&mut image[from..to], z, column, value, stamp, wrapped)
 }
 
-// Where a value goes: the row of its ring. Or why it is refused.
-#[derive(Clone, Copy)]
-pub enum Target {
-    Row(usize),
-    Refused(model::Refusal),
-}
-
 // Where a value goes, once opening's check has passed: 11, 12, 13, 18, or its row.
-pub fn ready_opened(image: &[u8], handle: model::SeriesHandle, value: u64, stamp: u64) -> Target
-    requires { open_check image.now ≡ 0 }
-    ensures { Readied image.now handle.schema handle.column value stamp result }
+pub fn ready_opened(
+    image: &lookup::Image,
+    handle: model::SeriesHandle,
+    value: u64,
+    stamp: u64,
+) -> Result<usize, model::Refusal>
+    ensures { Readied image.now.bytes.now handle.schema handle.column value stamp result }
 {
-    let found = lookup::finest_row(image, handle.schema as u64, handle.column as u64);
-    let lookup::Finest::At(row) = found else {
-        return Target::Refused(model::Refusal::InvalidHandle);
+    let found = image.finest_row(handle.schema as u64, handle.column as u64);
+    let Some(row) = found else {
+        return Err(model::Refusal::InvalidHandle);
     };
     let infinite = field::is_infinite(value);
     let good = field::is_good_stamp(stamp);
-    let old = lookup::is_old(image, row, stamp);
+    let old = image.is_old(row, stamp);
     if infinite {
-        return Target::Refused(model::Refusal::InvalidValue);
+        return Err(model::Refusal::InvalidValue);
     }
     if !good {
-        return Target::Refused(model::Refusal::InvalidTimestamp);
+        return Err(model::Refusal::InvalidTimestamp);
     }
     if old {
-        return Target::Refused(model::Refusal::OldSample);
+        return Err(model::Refusal::OldSample);
     }
-    Target::Row(row)
+    Ok(row)
 }
 
 // Where a value goes: opening's check first.
-pub fn ready(image: &[u8], handle: model::SeriesHandle, value: u64, stamp: u64) -> Target
+pub fn ready(
+    image: &[u8],
+    handle: model::SeriesHandle,
+    value: u64,
+    stamp: u64,
+) -> Result<usize, model::Refusal>
     ensures { Readied image.now handle.schema handle.column value stamp result }
 {
-    let opened = image_checked::check_image(image);
-    match opened {
-        model::Outcome::Accepted => ready_opened(image, handle, value, stamp),
-        model::Outcome::Refused(r) => Target::Refused(r),
-    }
+    let image = lookup::Image::checked(image)?;
+    ready_opened(&image, handle, value, stamp)
 }
 
 // Records one value.
@@ -88,23 +80,23 @@ pub fn record(
     handle: model::SeriesHandle,
     value: u64,
     stamp: u64,
-) -> Recorded
-    ensures { RecordDone (lent_of image.old flags) handle.schema handle.column value stamp (outcome_no result.outcome) (lent_of image.new result.flags) }
+) -> model::Called<Result<(), model::Refusal>>
+    ensures { RecordDone (lent_of image.old flags) handle.schema handle.column value stamp (outcome_no result.answer) (lent_of image.new result.flags) }
 {
     let found = ready(image, handle, value, stamp);
     match found {
-        Target::Row(row) => {
+        Ok(row) => {
             let wrapped = lookup::flag(flags, row);
             let after = store(image, row, handle.column as usize, value, stamp, wrapped);
             let next = lookup::with_flag(flags, row, after);
-            Recorded {
-                outcome: model::Outcome::Accepted,
+            model::Called {
+                answer: Ok(()),
                 flags: next,
             }
         }
-        Target::Refused(r) => Recorded {
-            outcome: model::Outcome::Refused(r),
-            flags: flags,
+        Err(r) => model::Called {
+            answer: Err(r),
+            flags,
         },
     }
 }
@@ -121,15 +113,15 @@ pub fn record_opened(
     requires { open_check image.old ≡ 0 }
     ensures { RecordDone (lent_at image.old flags.old) handle.schema handle.column value stamp result (lent_at image.new flags.new) }
 {
-    let found = ready_opened(image, handle, value, stamp);
+    let found = ready_opened(&lookup::Image { bytes: image }, handle, value, stamp);
     match found {
-        Target::Row(row) => {
+        Ok(row) => {
             let lower = store(image, row, handle.column as usize, value, stamp, false);
             if lower {
                 *flags = flag_bits::with_flag(*flags, row, true);
             }
             0
         }
-        Target::Refused(r) => model::refusal_number(r),
+        Err(r) => model::refusal_number(r),
     }
 }

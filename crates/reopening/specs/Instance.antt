@@ -1,8 +1,7 @@
 -- The claim on opening, on cases, by computation: a history whose flag an opening changes, and nothing else; what the claim does not hold of; what the request's
 -- own words ask; what both statements say of such histories. Assumes nothing.
-use Rattle.std.specs.Prelude.{ℕ, zero, suc, ◌<◌, ◌≡◌, refl, true, false, List, [], ◌∷◌, map, take, drop, replicate, T}
+use Rattle.std.specs.Prelude.{ℕ, zero, suc, ◌<◌, ◌≡◌, refl, true, false, List, [], ◌∷◌, map, take, drop, replicate, T, Some}
 use Rattle.std.proofs.Common.{subst, arith}
-use Rattle.model.specs.declared.End.TheVariants.{At}
 use Rattle.model.specs.Bytes.{put}
 use Rattle.model.specs.Image.{schemas, create_check}
 use Rattle.model.specs.Ring.{first_place}
@@ -60,17 +59,17 @@ unfolding Instance-defs
 past_the_row = refl
 
 pub answer_stays :
-    (shown (call (left gap) (everything 0)).reply ≡ points 0 (At 30) (At 40) 0 end64 true (at 30 2 ∷ at 40 3 ∷ []))
-    × (shown (call (reopened gap) (everything 0)).reply ≡ points 0 (At 30) (At 40) 0 end64 true (at 30 2 ∷ at 40 3 ∷ []))
+    (shown (call (left gap) (everything 0)).reply ≡ points 0 (Some 30) (Some 40) 0 end64 true (at 30 2 ∷ at 40 3 ∷ []))
+    × (shown (call (reopened gap) (everything 0)).reply ≡ points 0 (Some 30) (Some 40) 0 end64 true (at 30 2 ∷ at 40 3 ∷ []))
 unfolding Instance-defs
 answer_stays = (refl, refl)
 
 -- what they answer: 5.5 is the mean of 5 and 6
 unfoldable pub answers : List Shown
 answers =
-    points 0 (At 30) (At 60) 0 end64 true (at 30 2 ∷ at 40 1 ∷ at 50 3 ∷ at 60 5 ∷ []) ∷ accepted ∷ writes 2
-    ∷ points 0 (At 30) (At 70) 30 60 false (at 30 2 ∷ at 40 1 ∷ at 50 3 ∷ []) ∷ refusal 11 ∷ accepted
-    ∷ points 1 (At 30) (At 60) 0 end64 true (at 30 2 ∷ record { stamp = 60; value = 0x4016_0000_0000_0000 } ∷ []) ∷ []
+    points 0 (Some 30) (Some 60) 0 end64 true (at 30 2 ∷ at 40 1 ∷ at 50 3 ∷ at 60 5 ∷ []) ∷ accepted ∷ writes 2
+    ∷ points 0 (Some 30) (Some 70) 30 60 false (at 30 2 ∷ at 40 1 ∷ at 50 3 ∷ []) ∷ refusal 11 ∷ accepted
+    ∷ points 1 (Some 30) (Some 60) 0 end64 true (at 30 2 ∷ record { stamp = 60; value = 0x4016_0000_0000_0000 } ∷ []) ∷ []
 
 pub mixed_flags : take 2 (left mixed).flags ∷ take 2 (reopened mixed).flags ∷ [] ≡ (true ∷ false ∷ []) ∷ (false ∷ false ∷ []) ∷ []
 unfolding Instance-defs
@@ -91,8 +90,8 @@ unfoldable pub lapped : Lent
 lapped = after (created (record { plan = plan (ring10 4); buf = replicate 300 9; flags = []; calls = []; handed = [] })) (rec 10 1 ∷ rec 20 2 ∷ rec 30 3 ∷ rec 40 4 ∷ rec 50 5 ∷ [])
 
 pub flags_otherwise :
-    (shown (call (record { image = lapped.image; flags = false ∷ [] }) (everything 0)).reply ≡ points 0 (At 40) (At 50) 0 end64 true (at 40 4 ∷ at 50 5 ∷ []))
-    × (shown (call (call lapped (open_call [])).lent (everything 0)).reply ≡ points 0 (At 20) (At 50) 0 end64 true (at 20 2 ∷ at 30 3 ∷ at 40 4 ∷ at 50 5 ∷ []))
+    (shown (call (record { image = lapped.image; flags = false ∷ [] }) (everything 0)).reply ≡ points 0 (Some 40) (Some 50) 0 end64 true (at 40 4 ∷ at 50 5 ∷ []))
+    × (shown (call (call lapped (open_call [])).lent (everything 0)).reply ≡ points 0 (Some 20) (Some 50) 0 end64 true (at 20 2 ∷ at 30 3 ∷ at 40 4 ∷ at 50 5 ∷ []))
 unfolding Instance-defs lapped
 flags_otherwise = (refl, refl)
 
@@ -101,8 +100,8 @@ unfoldable pub poked : Lent
 poked = record { image = put 8 (left gap).image 208 (num 7); flags = (left gap).flags }
 
 pub bytes_otherwise :
-    (shown (call poked (everything 0)).reply ≡ points 0 (At 30) (At 40) 0 end64 true (at 0 7 ∷ at 30 2 ∷ at 40 3 ∷ []))
-    × (shown (call (call poked (open_call [])).lent (everything 0)).reply ≡ points 0 (At 30) (At 40) 0 end64 true (at 30 2 ∷ at 40 3 ∷ []))
+    (shown (call poked (everything 0)).reply ≡ points 0 (Some 30) (Some 40) 0 end64 true (at 0 7 ∷ at 30 2 ∷ at 40 3 ∷ []))
+    × (shown (call (call poked (open_call [])).lent (everything 0)).reply ≡ points 0 (Some 30) (Some 40) 0 end64 true (at 30 2 ∷ at 40 3 ∷ []))
 unfolding Instance-defs poked
 bytes_otherwise = (refl, refl)
 

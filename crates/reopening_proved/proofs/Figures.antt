@@ -1,8 +1,7 @@
 -- An opening changes neither the panel's figure nor the service figure: both are told by what is seen of the query over all time. Assumes nothing.
-use Rattle.std.specs.Prelude.{ℕ, ◌≡◌, refl, List}
+use Rattle.std.specs.Prelude.{ℕ, ◌≡◌, refl, List, None}
 use Rattle.std.proofs.Math.Path.{ap, sym}
 use Rattle.std.proofs.Common.{◌∙◌}
-use Rattle.model.specs.declared.LastPoint.TheVariants.{NoPoint}
 use Rattle.model.specs.Image.{create_check}
 use Rattle.model.specs.Query.{QueryReply, found, not_found, query}
 use Rattle.model.specs.Figure.{end_of_time, reading, last_after, last_on, PanelReply, shows_nothing, not_shown, shown_point, panel_on, panel, ServiceReply, serves_nothing, not_served, served_point, service_on, service}
@@ -15,13 +14,13 @@ abbrev panel_seen : Shown → PanelReply
 panel_seen (refusal n) = not_shown n
 panel_seen accepted = shows_nothing
 panel_seen (writes k) = shows_nothing
-panel_seen (points j o n start end i ps) = shown_point (last_after NoPoint ps)
+panel_seen (points j o n start end i ps) = shown_point (last_after None ps)
 
 abbrev service_seen : Shown → ServiceReply
 service_seen (refusal n) = not_served n
 service_seen accepted = serves_nothing
 service_seen (writes k) = serves_nothing
-service_seen (points j o n start end i ps) = served_point (last_after NoPoint ps) o n
+service_seen (points j o n start end i ps) = served_point (last_after None ps) o n
 
 panel-seen : (x : QueryReply) → panel_on x ≡ panel_seen (shown (read_or x))
 unfolding panel_on last_on shown read_or

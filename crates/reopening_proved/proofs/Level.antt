@@ -2,15 +2,13 @@
 -- the same and is refused alike. Assumes nothing.
 use Prim.Native.Nat.{ℕ, zero, suc, ◌+◌, ◌-◌, ◌≤◌, ◌<◌}
 use Rattle.std.proofs.Common.{arith, sym, ap}
-use Rattle.std.specs.Prelude.{◌≡◌, Bool, ◌&&◌, ltb, eqb}
+use Rattle.std.specs.Prelude.{◌≡◌, Bool, ◌&&◌, ltb, eqb, Option, Some, None}
 use Rattle.std.proofs.Math.Path.{refl, subst}
 use Rattle.std.proofs.Math.Bool.{true, false}
 use mathlib.Core.List.{List, [], ◌∷◌}
 use Rattle.std.specs.Float.{binary64}
 use Rattle.std.specs.Float.Ieee.{to_bits}
 use Rattle.model.specs.declared.Row.{Row}
-use Rattle.model.specs.declared.TierFn.{TierFn}
-use Rattle.model.specs.declared.TierFn.TheVariants.{None, Some}
 use Rattle.model.specs.declared.ConsolidationFn.{ConsolidationFn}
 use Rattle.model.specs.declared.WindowAnswer.{WindowAnswer}
 use Rattle.model.specs.declared.WindowAnswer.TheVariants.{Empty, Number, NothingFinite}
@@ -195,7 +193,7 @@ module _ (u u' : Run) (e : Even u u') (t : AllTidy u.lent) (t' : AllTidy u'.lent
       (filled (job_of u'.lent i f) (ring u'.lent (suc i)) (row u'.lent i).series) e
       (ap or_zero (source u.lent u'.lent e.image_is t t' i hi).newest-is) (level_pair u.lent u'.lent e.image_is t t' i hi f)
 
-  even_by : (f : TierFn) → Even (pair_by f u i) (pair_by f u' i)
+  even_by : (f : Option ConsolidationFn) → Even (pair_by f u i) (pair_by f u' i)
   unfolding pair_by
   even_by None = refused_alike u u' 16 e
   even_by (Some f) =

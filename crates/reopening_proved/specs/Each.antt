@@ -4,15 +4,13 @@
 use Prim.Native.Nat.{ℕ, zero, suc, ◌+◌, ◌-◌, ◌^◌, ◌≤◌, ◌<◌}
 use Rattle.std.proofs.Common.{arith, sym, ap, ◌∙◌}
 use Rattle.std.proofs.Math.Decide.{ℕ_discrete}
-use Rattle.std.specs.Prelude.{◌≡◌, Bool, ◌&&◌, length}
+use Rattle.std.specs.Prelude.{◌≡◌, Bool, ◌&&◌, length, Option, Some, None}
 use Rattle.std.proofs.Math.Path.{refl, subst}
 use Rattle.std.proofs.Math.Bool.{true, false}
 use mathlib.Core.List.{List, [], ◌∷◌}
 use Rattle.std.proofs.Math.Dec.{ltb, eqb}
 use Rattle.std.specs.Float.Ieee.{binary64, to_bits}
 use Rattle.model.specs.declared.Row.{Row}
-use Rattle.model.specs.declared.TierFn.{TierFn}
-use Rattle.model.specs.declared.TierFn.TheVariants.{None, Some}
 use Rattle.model.specs.declared.ConsolidationFn.{ConsolidationFn}
 use Rattle.model.specs.declared.WindowAnswer.{WindowAnswer}
 use Rattle.model.specs.declared.WindowAnswer.TheVariants.{Empty, Number, NothingFinite}
@@ -212,7 +210,7 @@ module _ (P : ℕ → ℕ → Ring → Type 0)
         marked (eqb p.refusal 0 && ltb 0 p.writes) (with_ring l (suc i) p.ring) i (or_zero (newest (ring l i))) a.0 (rw a.1 (omega arith))
         (newest_of l h.good i (omega arith) e)
 
-    paired : (f : TierFn) (c n : ℕ) → Each (pair_by f (record { lent = l; count = c; refusal = n }) i).lent
+    paired : (f : Option ConsolidationFn) (c n : ℕ) → Each (pair_by f (record { lent = l; count = c; refusal = n }) i).lent
     unfolding pair_by
     paired None c n = unfold refuse_run in h
     paired (Some f) c n = paired_with (stamps_below (ring l i).slab 0 (slots (ring l i).slab)) f c n refl

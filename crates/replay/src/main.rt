@@ -2,152 +2,110 @@
 // bytes after each call, by a sum. README.md says how the list (`stdin`) is laid out and how it was made. A line a group of calls, and a total.
 #![tactic(auto)]
 
-mod calls;
 mod stored;
 
-// Calls and differences, of the group and of all.
-#[derive(Clone, Copy)]
+use anyhow::{Context, Result};
+use owned::Store;
+use std::io::{Read, Write};
+use std::{fmt, io};
+use stored::{Item, Items, Kind};
+
+// The bytes of a block of the list, and of the image.
+const BLOCK: usize = 65_536;
+
+// How many blocks of the list are read at most.
+const BLOCKS: u64 = 31;
+
+// How many calls there were, and how many are unlike the stored ones.
+#[derive(Clone, Copy, Default)]
 struct Tally {
     calls: u64,
     unlike: u64,
-    all: u64,
-    all_unlike: u64,
 }
 
-// One more.
-fn next_of(x: u64) -> u64 {
-    if x == u64::MAX { x } else { x + 1 }
+impl Tally {
+    fn count(&mut self, unlike: bool) {
+        self.calls = self.calls.saturating_add(1);
+        self.unlike = self.unlike.saturating_add(u64::from(unlike));
+    }
 }
 
-// Counts a call, and whether it is unlike the stored one.
-fn count(t: Tally, unlike: bool) -> Tally {
-    let calls = next_of(t.calls);
-    let all = next_of(t.all);
-    if unlike {
-        let one = next_of(t.unlike);
-        let all_one = next_of(t.all_unlike);
-        return Tally {
-            calls: calls,
-            unlike: one,
-            all: all,
-            all_unlike: all_one,
+impl fmt::Display for Tally {
+    fn fmt<W: fmt::Write>(&self, f: &mut fmt::Formatter<W>) -> fmt::Result {
+        write!(f, "{} calls, {} unlike the Rust", self.calls, self.unlike)
+    }
+}
+
+// Where the list stands: the store, and the tallies of the group and of all.
+#[derive(Drop)]
+struct Replay {
+    store: Store,
+    group: Tally,
+    all: Tally,
+}
+
+impl Replay {
+    // One item: the rest of a block, the end of a group, or a call, which is unlike the stored one if its answer is, or the image or a flag after it.
+    fn carry(&mut self, rt: &impl Print, item: Item<'_>) -> Result<()> {
+        let store = &mut self.store;
+        let alike = match item.kind() {
+            Kind::Rest => return Ok(()),
+            Kind::GroupEnd => return self.end_group(rt, item),
+            Kind::Create => item
+                .rest(48)
+                .is_some_and(|plan| store.create(plan) == item.answer(())),
+            Kind::Open => store.open() == item.answer(()),
+            Kind::Record => store.record(item.handle(), item.word(64), item.word(72))
+                == item.answer(()),
+            Kind::Batch => item.rest(56).is_some_and(|entries| store.record_batch(
+                entries,
+                item.word(48),
+            ) == item.answer(())),
+            Kind::Query => item.is_answer(store.query(
+                item.handle(),
+                item.half(64),
+                item.word(72),
+                item.word(80),
+            )),
+            Kind::QueryAuto => item.is_answer(store.query_auto(
+                item.handle(),
+                item.word(72),
+                item.word(80),
+            )),
+            Kind::Run => store.run() == item.answer(item.word(48)),
+            Kind::Write => store.write(item.word(48) as usize, item.word(56)).is_some(),
         };
+        let unlike = !alike || !item.is_left(&self.store);
+        self.group.count(unlike);
+        self.all.count(unlike);
+        Ok(())
     }
-    Tally {
-        calls: calls,
-        unlike: t.unlike,
-        all: all,
-        all_unlike: t.all_unlike,
-    }
-}
 
-// Writes how many calls there were and how many differ.
-fn show(calls: u64, unlike: u64) {
-    io::write_all(1, b": ");
-    io::print_decimal(1, calls);
-    io::write_all(1, b" calls, ");
-    io::print_decimal(1, unlike);
-    io::write_all(1, b" unlike the Rust\n");
-}
-
-// Writes an item's bytes from 48 on.
-fn write_rest(item: &[u8]) {
-    if item.len() < 48 {
-        return;
-    }
-    io::write_all(1, &item[48..]);
-}
-
-// Ends a group: writes its line.
-fn end_group(item: &[u8], t: Tally) -> Tally {
-    write_rest(item);
-    show(t.calls, t.unlike);
-    Tally {
-        calls: 0,
-        unlike: 0,
-        all: t.all,
-        all_unlike: t.all_unlike,
+    // Ends a group: writes its line. Its name stands in the item from 48 on.
+    fn end_group(&mut self, rt: &impl Print, item: Item<'_>) -> Result<()> {
+        io::writer(rt).write_all(item.rest(48).unwrap_or_default())?;
+        println!(rt; ": {}", self.group)?;
+        self.group = Tally::default();
+        Ok(())
     }
 }
 
-// Where the list stands.
-#[derive(Clone, Copy)]
-struct State {
-    flags: model::Flags,
-    tally: Tally,
-}
-
-// One item: the rest of a block, the end of a group, or a call.
-fn carry(item: &[u8], image: &mut [u8], before: State) -> State {
-    let kind = stored::word(item, 8);
-    if kind == 0 {
-        return before;
-    }
-    let flags = before.flags;
-    let tally = before.tally;
-    if kind == 9 {
-        let ended = end_group(item, tally);
-        return State {
-            flags: flags,
-            tally: ended,
-        };
-    }
-    let done = calls::carry_out(item, kind, image, flags);
-    let left = done.flags;
-    let unlike = done.unlike;
-    let changed = stored::is_unlike(item, image, left);
-    let counted = count(tally, unlike || changed);
-    State {
-        flags: left,
-        tally: counted,
-    }
-}
-
-// A block of the list, item by item.
-fn replay(block: &[u8], image: &mut [u8], before: State) -> State {
-    let mut state = before;
-    let mut at = 0;
-    while at < block.len() {
-        let end = stored::end_of(block, at);
-        state = carry(&block[at..end], image, state);
-        at = end;
-    }
-    state
-}
-
-// Reads the next block and carries it out.
-fn read_block(image: &mut [u8], before: State) -> State {
-    let mut block = io::large_buffer();
-    let n = io::read_full(0, &mut block);
-    replay(&block[..n], image, before)
-}
-
-// The whole list: at most 31 blocks.
-fn read_all(image: &mut [u8]) -> Tally {
-    let flags = model::Flags {
-        wrapped: [false; 32],
+fn main(rt: HostRuntime) -> Result<()> {
+    let mut list = Vec::new(rt.alloc());
+    rt.reader()
+        .take(BLOCKS * BLOCK as u64)
+        .read_to_end(&mut list)
+        .context("reading the list")?;
+    let mut replay = Replay {
+        store: Store::new(rt.alloc(), BLOCK)?,
+        group: Tally::default(),
+        all: Tally::default(),
     };
-    let zero = Tally {
-        calls: 0,
-        unlike: 0,
-        all: 0,
-        all_unlike: 0,
-    };
-    let mut state = State {
-        flags: flags,
-        tally: zero,
-    };
-    let mut left: usize = 31;
-    while 0 < left {
-        state = read_block(image, state);
-        left -= 1;
+    for block in list.chunks(BLOCK) {
+        for item in Items(block) {
+            replay.carry(&rt, item)?;
+        }
     }
-    state.tally
-}
-
-fn main() {
-    let mut image = io::large_buffer();
-    let t = read_all(&mut image);
-    io::write_all(1, b"all");
-    show(t.all, t.all_unlike);
+    println!(rt; "all: {}", replay.all)?;
+    Ok(())
 }

@@ -1,216 +1,193 @@
 // The stored list that the program `replay` carries out: its items, an item's words, and what an item says of a call's answer and of the image and the flags
 // after it (crates/replay/README.md).
-ghost use Rattle.std.specs.Prelude.{◌<◌, ◌≤◌, length};
+ghost use Rattle.std.specs.Prelude.{length};
+ghost use Rattle.std.specs.Iterator.{at_most};
 
-// The number in the eight bytes at an offset; 0 past the end.
-pub fn word(item: &[u8], at: usize) -> u64 {
-    if item.len() < 8 {
-        return 0;
-    }
-    if item.len() - 8 < at {
-        return 0;
-    }
-    field::get_u64(item, at)
+use owned::{Points, Refused, Store};
+
+// How many points of a query are compared at most.
+const MOST_POINTS: usize = 100_000;
+
+// What an item is.
+#[derive(Clone, Copy)]
+pub enum Kind {
+    Rest,
+    Create,
+    Open,
+    Record,
+    Batch,
+    Query,
+    QueryAuto,
+    Run,
+    Write,
+    GroupEnd,
 }
 
-// The number in the four bytes at an offset; 0 past the end.
-pub fn half(item: &[u8], at: usize) -> u32 {
-    if item.len() < 4 {
-        return 0;
-    }
-    if item.len() - 4 < at {
-        return 0;
-    }
-    let x = field::get_u32(item, at);
-    x as u32
-}
+// A number that is no kind's.
+#[derive(Clone, Copy)]
+pub struct NoKind;
 
-// Where the item at an offset ends: its first word is its length.
-pub fn end_of(list: &[u8], at: usize) -> usize
-    requires { at < length list.now }
-    ensures { (at < result) × (result ≤ length list.now) }
-{
-    let left = list.len() - at;
-    let size = word(list, at);
-    if size == 0 {
-        return list.len();
-    }
-    if size > left as u64 {
-        return list.len();
-    }
-    at + size as usize
-}
+impl TryFrom<u64> for Kind {
+    type Error = NoKind;
 
-// One byte more of a sum: a polynomial in 257 over the integers modulo the prime 2^32 - 5, so that every change of one byte shows.
-fn add_byte(sum: u64, x: u8) -> u64
-    requires { sum < 4294967291 }
-    ensures { result < 4294967291 }
-{
-    (sum * 257 + x as u64 + 1) % 4294967291
-}
-
-// The sum of the first n bytes.
-fn sum_of(s: &[u8], n: usize) -> u64
-    requires { n ≤ length s.now }
-{
-    let mut sum = 0;
-    let mut i = 0;
-    while i < n {
-        sum = add_byte(sum, s[i]);
-        i += 1;
-    }
-    sum
-}
-
-// The image's bytes are not those that the item says.
-fn is_image_unlike(item: &[u8], image: &[u8]) -> bool {
-    let n = word(item, 24);
-    if n > image.len() as u64 {
-        return true;
-    }
-    let sum = sum_of(image, n as usize);
-    let stored = word(item, 32);
-    sum != stored
-}
-
-// The image's bytes or the flags are not those that the item says.
-pub fn is_unlike(item: &[u8], image: &[u8], flags: model::Flags) -> bool {
-    let number = flag_bits::number_of(flags);
-    let stored = word(item, 40);
-    if number as u64 != stored {
-        return true;
-    }
-    is_image_unlike(item, image)
-}
-
-// The number of an answer is not the stored one.
-pub fn is_other(item: &[u8], outcome: model::Outcome) -> bool {
-    let number = model::outcome_number(outcome);
-    let stored = word(item, 16);
-    number as u64 != stored
-}
-
-// A run's answer is not the stored one.
-pub fn is_other_run(item: &[u8], answer: model::Consolidated) -> bool {
-    let refused = word(item, 16);
-    let count = word(item, 48);
-    match answer {
-        model::Consolidated::Wrote(k) => refused != 0 || k != count,
-        model::Consolidated::Refused(r) => {
-            let number = model::refusal_number(r);
-            number as u64 != refused
+    fn try_from(number: u64) -> Result<Kind, NoKind> {
+        match number {
+            0 => Ok(Kind::Rest),
+            1 => Ok(Kind::Create),
+            2 => Ok(Kind::Open),
+            3 => Ok(Kind::Record),
+            4 => Ok(Kind::Batch),
+            5 => Ok(Kind::Query),
+            6 => Ok(Kind::QueryAuto),
+            7 => Ok(Kind::Run),
+            8 => Ok(Kind::Write),
+            9 => Ok(Kind::GroupEnd),
+            _ => Err(NoKind),
         }
     }
 }
 
-// An end's stamp; 0 where it is missing.
-fn end_number(end: model::End) -> u64 {
-    match end {
-        model::End::At(t) => t,
-        model::End::Missing => 0,
+// A block's items, one after another: an item's first word is its length, and one of length 0, or that goes past the block's end, ends with the block.
+#[derive(Clone, Copy)]
+pub struct Items<'a>(pub &'a [u8]);
+
+impl<'a> Iterator for Items<'a> {
+    type Item = Item<'a>;
+
+    ghost remaining = { λ s. at_most (length s.0.now) };
+
+    fn next(&mut self) -> Option<Item<'a>> {
+        let block = self.0;
+        if block.is_empty() {
+            return None;
+        }
+        let size = owned::word(block, 0).unwrap_or(0) as usize;
+        let end = if 0 < size && size <= block.len() {
+            size
+        } else {
+            block.len()
+        };
+        let (item, rest) = block.split_at(end);
+        self.0 = rest;
+        Some(Item(item))
     }
 }
 
-// A query's answer without its points is not the stored one.
-fn is_other_head(item: &[u8], f: model::Found) -> bool {
-    let refused = word(item, 16);
-    let start = word(item, 72);
-    let end = word(item, 80);
-    let tier = word(item, 88);
-    let oldest = word(item, 96);
-    let newest = word(item, 104);
-    let incomplete = word(item, 112);
-    let first = f.oldest;
-    let last = f.newest;
-    let found_oldest = end_number(first);
-    let found_newest = end_number(last);
-    if refused != 0 || f.tier as u64 != tier || f.start != start || f.end != end {
-        return true;
-    }
-    if found_oldest != oldest || found_newest != newest {
-        return true;
-    }
-    f.incomplete != (incomplete == 1)
+// A call, and what the Rust answered; or the end of a group of calls.
+#[derive(Clone, Copy)]
+pub struct Item<'a>(&'a [u8]);
+
+// A query's answer without its points; an end that is missing is 0.
+#[derive(Clone, Copy, PartialEq, Eq)]
+struct Head {
+    tier: u64,
+    start: u64,
+    end: u64,
+    oldest: u64,
+    newest: u64,
+    incomplete: bool,
 }
 
-// What a reader hands out is not this point.
-fn is_other_point(next: model::Next, stamp: u64, value: u64) -> bool {
-    match next {
-        model::Next::Handed(p) => p.stamp != stamp || p.value != value,
-        model::Next::Finished => true,
-    }
-}
-
-// A reader is not at its end.
-fn is_more(next: model::Next) -> bool {
-    match next {
-        model::Next::Handed(_) => true,
-        model::Next::Finished => false,
-    }
-}
-
-// A reader's points, up to its end, are not the item's `count` ones from 128 on.
-fn are_other_points(item: &[u8], slab: &[u8], f: model::Found, count: usize) -> bool
-    requires { count ≤ 100000 }
-{
-    let column = f.column;
-    let start = f.start;
-    let end = f.end;
-    let mut place = f.place;
-    let mut unlike = false;
-    let mut i = 0;
-    while i < count {
-        let stepped = reader::step(slab, column, start, end, place);
-        place = stepped.place;
-        let next = stepped.next;
-        let stamp = word(item, 128 + 16 * i);
-        let value = word(item, 136 + 16 * i);
-        let other = is_other_point(next, stamp, value);
-        unlike = unlike || other;
-        i += 1;
-    }
-    let last = reader::step(slab, column, start, end, place);
-    let next = last.next;
-    let more = is_more(next);
-    unlike || more
-}
-
-// An answer with its points is not the stored one.
-fn is_other_found(item: &[u8], image: &[u8], f: model::Found) -> bool {
-    let other = is_other_head(item, f);
-    if other {
-        return true;
-    }
-    let count = word(item, 120);
-    if count > 100000 {
-        return true;
-    }
-    let from = f.from;
-    let to = f.to;
-    if to > image.len() || from > to {
-        return true;
-    }
-    are_other_points(item, &image[from..to], f, count as usize)
-}
-
-// A query's answer is not the stored one.
-pub fn is_other_query(item: &[u8], image: &[u8], reply: model::Queried) -> bool {
-    match reply {
-        model::Queried::Answer(f) => is_other_found(item, image, f),
-        model::Queried::Refused(r) => {
-            let number = model::refusal_number(r);
-            let refused = word(item, 16);
-            number as u64 != refused
+impl Head {
+    fn of(found: model::Found) -> Head {
+        Head {
+            tier: u64::from(found.tier),
+            start: found.start,
+            end: found.end,
+            oldest: found.oldest.unwrap_or(0),
+            newest: found.newest.unwrap_or(0),
+            incomplete: found.incomplete,
         }
     }
 }
 
-// The series that an item names.
-pub fn handle_of(item: &[u8]) -> model::SeriesHandle {
-    let schema = half(item, 48);
-    let column = half(item, 56);
-    model::SeriesHandle {
-        schema: schema,
-        column: column,
+impl<'a> Item<'a> {
+    // The number in the eight bytes at an offset; 0 past the end.
+    pub fn word(&self, at: usize) -> u64 {
+        owned::word(self.0, at).unwrap_or(0)
     }
+
+    // The number in the four bytes at an offset; 0 past the end.
+    pub fn half(&self, at: usize) -> u32 {
+        owned::half(self.0, at).unwrap_or(0)
+    }
+
+    // A number that is no kind's is taken for somebody else's write.
+    pub fn kind(&self) -> Kind {
+        Kind::try_from(self.word(8)).unwrap_or(Kind::Write)
+    }
+
+    // The bytes from an offset on; none past the end.
+    pub fn rest(&self, from: usize) -> Option<&'a [u8]> {
+        self.0.get(from..)
+    }
+
+    // The series that a record or a query names.
+    pub fn handle(&self) -> model::SeriesHandle {
+        model::SeriesHandle {
+            schema: self.half(48),
+            column: self.half(56),
+        }
+    }
+
+    // The stored answer: `accepted`, or the refusal.
+    pub fn answer<T: Drop>(&self, accepted: T) -> Result<T, Refused> {
+        match self.word(16) {
+            0 => Ok(accepted),
+            number => Err(Refused(number)),
+        }
+    }
+
+    // The stored answer of a query, without its points.
+    fn head(&self) -> Head {
+        Head {
+            tier: self.word(88),
+            start: self.word(72),
+            end: self.word(80),
+            oldest: self.word(96),
+            newest: self.word(104),
+            incomplete: self.word(112) == 1,
+        }
+    }
+
+    // The stamp and the value of a stored point, sixteen bytes each.
+    fn point(&self, i: usize) -> (u64, u64) {
+        let at = i.saturating_mul(16);
+        (
+            self.word(at.saturating_add(128)),
+            self.word(at.saturating_add(136)),
+        )
+    }
+
+    // A query's answer, with its points, is the stored one.
+    pub fn is_answer(&self, reply: Result<(model::Found, Points<'_>), Refused>) -> bool {
+        match reply {
+            Ok((found, points)) => self.answer(self.head()) == Ok(Head::of(found))
+                && self.has_points(points),
+            Err(refused) => self.answer(()) == Err(refused),
+        }
+    }
+
+    // A reader's points, up to its end, are the stored ones. A count above the limit is unlike any reading.
+    fn has_points(&self, points: Points<'_>) -> bool {
+        let count = self.word(120) as usize;
+        let stored = (0..count).map(|i| self.point(i));
+        count <= MOST_POINTS && points.map(|p| (p.stamp, p.value)).eq(stored)
+    }
+
+    // The image's bytes and the flags are those that the item says.
+    pub fn is_left(&self, store: &Store) -> bool {
+        let Some(image) = store.image().get(..self.word(24) as usize) else {
+            return false;
+        };
+        let flags = flag_bits::number_of(store.flags());
+        u64::from(flags) == self.word(40) && u64::from(sum_of(image)) == self.word(32)
+    }
+}
+
+// The sum of bytes: a polynomial in 257 over the integers modulo the prime 2^32 - 5, so that every change of one byte shows.
+fn sum_of(bytes: &[u8]) -> u32 {
+    bytes.iter().fold(0, |sum, byte| {
+        ((u64::from(sum) * 257 + u64::from(*byte) + 1) % 4_294_967_291) as u32
+    })
 }

@@ -1,5 +1,6 @@
 // The ring of one slab, read: where stamps and cells stand; the stamp, the cell and the cursor; the slot of a stamp and the next slot; whether a stamp is
-// old; the place where a reading starts (Rust's ring.rs). A slab is lent as its own slice; n slots and m series are what its header says (`Sized`).
+// old; the place where a reading starts (Rust's ring.rs). A slab is lent as its own slice; n slots and m series are what its header says (`Sized`), which
+// the type `Slab` keeps.
 #![tactic(auto)]
 
 ghost use Rattle.std.specs.Prelude.{◌≡◌, suc, ◌+◌, ◌*◌, ◌/◌, ◌%◌, ◌<◌, ◌≤◌, ◌^◌};
@@ -14,6 +15,15 @@ pub struct Sizes {
     pub slots: usize,
     pub series: usize,
     pub interval: u64,
+}
+
+// One slab, read: its bytes, and the slots and series that its header says.
+#[derive(Clone, Copy)]
+pub struct Slab<'a> {
+    pub bytes: &'a [u8],
+    pub slots: usize,
+    pub series: usize,
+    ghost sized: { Sized bytes.now slots series },
 }
 
 // Where a slot's stamp stands.
@@ -32,32 +42,53 @@ pub fn cell_place(n: usize, m: usize, column: usize, slot: usize) -> usize
     format::stamps_at(m) + 8 * (n * (column + 1) + slot)
 }
 
-// A slot's stamp.
-pub fn stamp_of(slab: &[u8], n: usize, m: usize, slot: usize) -> u64
-    requires sized { Sized slab.now n m }
-    requires slot_lt_n { slot < n }
-    ensures { result ≡ stamp slab.now slot }
-{
-    let at = stamp_place(n, m, slot);
-    field::get_u64(slab, at)
-}
+impl<'a> Slab<'a> {
+    // A slot's stamp.
+    pub fn stamp(&self, slot: usize) -> u64
+        requires { slot < self.now.slots }
+        ensures { result ≡ stamp self.now.bytes.now slot }
+    {
+        let at = stamp_place(self.slots, self.series, slot);
+        field::get_u64(self.bytes, at)
+    }
 
-// The cell of a column in a slot.
-pub fn cell_of(slab: &[u8], n: usize, m: usize, column: usize, slot: usize) -> u64
-    requires sized { Sized slab.now n m }
-    requires slot_lt_n { (slot < n) × (column < m) }
-    ensures { result ≡ cell slab.now column slot }
-{
-    let at = cell_place(n, m, column, slot);
-    field::get_u64(slab, at)
-}
+    // The cell of a column in a slot.
+    pub fn cell(&self, column: usize, slot: usize) -> u64
+        requires { (slot < self.now.slots) × (column < self.now.series) }
+        ensures { result ≡ cell self.now.bytes.now column slot }
+    {
+        let at = cell_place(self.slots, self.series, column, slot);
+        field::get_u64(self.bytes, at)
+    }
 
-// The cursor.
-pub fn cursor_of(slab: &[u8], n: usize, m: usize) -> usize
-    requires { Sized slab.now n m }
-    ensures { (result ≡ cursor slab.now) × (result < n) }
-{
-    field::get_u32(slab, format::SLAB_CURSOR) as usize
+    // The cursor.
+    pub fn cursor(&self) -> usize
+        ensures { (result ≡ cursor self.now.bytes.now) × (result < self.now.slots) }
+    {
+        field::get_u32(self.bytes, format::SLAB_CURSOR) as usize
+    }
+
+    // Where a reading starts, and over how many slots it goes.
+    pub fn first_place(&self, wrapped: bool) -> model::Place
+        ensures { (result ≡ first_place (ring_of self.now.bytes.now wrapped)) × (result.slot < self.now.slots) × (result.left ≤ self.now.slots) }
+    {
+        let cursor = self.cursor();
+        let newest = self.stamp(cursor);
+        if newest == 0 {
+            return model::Place { slot: 0, left: 0 };
+        }
+        if wrapped {
+            let slot = next_slot(self.slots, cursor);
+            return model::Place {
+                slot,
+                left: self.slots,
+            };
+        }
+        model::Place {
+            slot: 0,
+            left: cursor + 1,
+        }
+    }
 }
 
 // The slot after a slot, round the ring.
@@ -87,29 +118,11 @@ pub fn is_old(slab: &[u8], z: Sizes, stamp: u64) -> bool
     ensures { result ≡ is_old slab.now stamp }
 {
     let slot = slot_of(stamp, z.interval, z.slots);
-    let held = stamp_of(slab, z.slots, z.series, slot);
+    let ring = Slab {
+        bytes: slab,
+        slots: z.slots,
+        series: z.series,
+    };
+    let held = ring.stamp(slot);
     stamp < held
-}
-
-// Where a reading starts, and over how many slots it goes.
-pub fn first_place(slab: &[u8], n: usize, m: usize, wrapped: bool) -> model::Place
-    requires { Sized slab.now n m }
-    ensures { (result ≡ first_place (ring_of slab.now wrapped)) × (result.slot < n) × (result.left ≤ n) }
-{
-    let cursor = cursor_of(slab, n, m);
-    let newest = stamp_of(slab, n, m, cursor);
-    if newest == 0 {
-        return model::Place { slot: 0, left: 0 };
-    }
-    if wrapped {
-        let slot = next_slot(n, cursor);
-        return model::Place {
-            slot: slot,
-            left: n,
-        };
-    }
-    model::Place {
-        slot: 0,
-        left: cursor + 1,
-    }
 }

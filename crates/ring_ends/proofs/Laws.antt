@@ -1,4 +1,5 @@
 -- The search for the oldest stamp, a slot or a piece of empty slots at a time, and an end by its stamp. Assumes nothing.
+use Rattle.std.specs.Prelude.{Some}
 use Prim.Native.Nat.{ℕ, zero, suc, ◌+◌, ◌-◌, ◌%◌, ◌≤◌, ◌<◌}
 use native.Mathlib.Nat.{mod-eq_of_lt}
 use native.Mathlib.Omega.{arith}
@@ -9,10 +10,9 @@ use mathlib.Core.List.{List}
 use lib.Dec.{eqb}
 use borrow.Author.Tests.{not-false}
 use Rattle.laws.specs.Tests.{eq_is, or_none}
-use Rattle.model.specs.declared.End.TheVariants.{At}
 use Rattle.model.specs.Ring.{stamp, walk, or_stamp, first_stamp, any_stamp, end_of}
 
-pub end_at : (t : ℕ) → t ≢ 0 → At t ≡ end_of t
+pub end_at : (t : ℕ) → t ≢ 0 → Some t ≡ end_of t
 unfolding end_of
 end_at zero h = absurd (h refl)
 end_at (suc t) h = refl

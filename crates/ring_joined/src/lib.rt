@@ -4,28 +4,25 @@
 
 ghost use Rattle.std.specs.Prelude.{◌≡◌, not, ◌+◌, ◌≤◌, eqb};
 ghost use Rattle.model.specs.Ring.{any_stamp};
-ghost use Rattle.ring.specs.Parts.{Sized};
 
 // The stamps of four slots joined by `|`: 0 where each of them is 0.
-fn four(slab: &[u8], n: usize, m: usize, slot: usize) -> u64
-    requires sized { Sized slab.now n m }
-    requires slot_bound { slot + 4 ≤ n }
-    ensures { not (eqb result 0) ≡ any_stamp slab.now slot 4 }
+fn four(slab: &ring::Slab, slot: usize) -> u64
+    requires { slot + 4 ≤ slab.now.slots }
+    ensures { not (eqb result 0) ≡ any_stamp slab.now.bytes.now slot 4 }
 {
-    let t0 = ring::stamp_of(slab, n, m, slot);
-    let t1 = ring::stamp_of(slab, n, m, slot + 1);
-    let t2 = ring::stamp_of(slab, n, m, slot + 2);
-    let t3 = ring::stamp_of(slab, n, m, slot + 3);
+    let t0 = slab.stamp(slot);
+    let t1 = slab.stamp(slot + 1);
+    let t2 = slab.stamp(slot + 2);
+    let t3 = slab.stamp(slot + 3);
     t0 | t1 | t2 | t3
 }
 
 // The stamps of eight slots.
-pub fn eight(slab: &[u8], n: usize, m: usize, slot: usize) -> u64
-    requires sized { Sized slab.now n m }
-    requires slot_bound { slot + 8 ≤ n }
-    ensures { not (eqb result 0) ≡ any_stamp slab.now slot 8 }
+pub fn eight(slab: &ring::Slab, slot: usize) -> u64
+    requires { slot + 8 ≤ slab.now.slots }
+    ensures { not (eqb result 0) ≡ any_stamp slab.now.bytes.now slot 8 }
 {
-    let low = four(slab, n, m, slot);
-    let high = four(slab, n, m, slot + 4);
+    let low = four(slab, slot);
+    let high = four(slab, slot + 4);
     low | high
 }

@@ -4,12 +4,11 @@ use Prim.Native.Nat.{ℕ, zero, suc, ◌+◌, ◌-◌, ◌*◌, ◌%◌, ◌≤�
 use Rattle.std.proofs.Common.{mod-lt, mul-pos, ap, ◌∙◌}
 use native.Mathlib.Omega.{arith}
 use Rattle.std.proofs.Math.Decide.{dec_lt}
-use Rattle.std.specs.Prelude.{◌≡◌, false, ◌&&◌, leb}
+use Rattle.std.specs.Prelude.{◌≡◌, false, ◌&&◌, leb, Some, None}
 use Rattle.std.proofs.Math.Path.{refl}
 use Rattle.std.proofs.Math.Bool.{and-false}
 use mathlib.Core.List.{List, [], ◌∷◌, ◌++◌, append-nil}
 use Rattle.std.proofs.Math.Dec.{ltb}
-use Rattle.model.specs.declared.End.TheVariants.{At, Missing}
 use Rattle.model.specs.declared.Point.{Point}
 use Rattle.model.specs.Layout.{fresh_value}
 use Rattle.model.specs.Ring.{Ring, cursor, stamp, cell, order, is_nan_bits, newest, oldest, end_of, or_stamp, first_stamp}
@@ -145,7 +144,7 @@ module _ {r : Ring} {n m d a e : ℕ} (st : State r n m d a e) (pa : 0 < a) (c :
 
 -- ---- the ends
 
-end_at : (x : ℕ) → 0 < x → end_of x ≡ At x
+end_at : (x : ℕ) → 0 < x → end_of x ≡ Some x
 unfolding end_of
 end_at zero h = absurd (omega arith)
 end_at (suc x) h = refl
@@ -156,14 +155,14 @@ or-here zero t h = absurd (omega arith)
 or-here (suc x) t h = refl
 
 -- an empty ring lacks both
-pub no_ends : {r : Ring} {n m d a : ℕ} → State r n m d a 0 → (newest r ≡ Missing) × (oldest r ≡ Missing)
+pub no_ends : {r : Ring} {n m d a : ℕ} → State r n m d a 0 → (newest r ≡ None) × (oldest r ≡ None)
 unfolding newest oldest end_of first_stamp newest_slot
 no_ends {r} st =
     let e : stamp r.slab (cursor r.slab) ≡ 0 = rw st.cursor-is (st.stamps.none 0 (some_slots st.slab-is.sound) (λ q x y. absurd (omega arith))) in
     (rw e, rw (order_none r e))
 
 module _ {r : Ring} {n m d a k : ℕ} (st : State r n m d a (suc k)) (pa : 0 < a) where
-  pub newest-is : newest r ≡ At ((a + k) * d)
+  pub newest-is : newest r ≡ Some ((a + k) * d)
   unfolding newest newest_slot
   newest-is =
       let e : stamp r.slab (cursor r.slab) ≡ (a + k) * d =
@@ -175,7 +174,7 @@ module _ {r : Ring} {n m d a k : ℕ} (st : State r n m d a (suc k)) (pa : 0 < a
   first_skips q zero rest h = refl
   first_skips q (suc j) rest h = rw (h q (omega arith) (omega arith)) (first_skips (suc q) j rest (λ p x y. h p (omega arith) (omega arith)))
 
-  pub oldest-is : oldest r ≡ At (first_held n a (suc k) * d)
+  pub oldest-is : oldest r ≡ Some (first_held n a (suc k) * d)
   unfolding oldest first_held
   oldest-is =
       rw (

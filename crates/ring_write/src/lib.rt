@@ -2,8 +2,8 @@
 // cursor, and answer the flag. A slab is lent as its own slice and stays in good order (`Sound`).
 #![tactic(auto)]
 
-ghost use Rattle.std.specs.Prelude.{◌≡◌, ◌||◌, ◌<◌, ◌≤◌, ltb, length};
-ghost use Rattle.model.specs.Bytes.{put};
+ghost use Rattle.std.specs.Prelude.{◌≡◌, ◌||◌, ◌+◌, ◌*◌, ◌<◌, ◌≤◌, ltb, length};
+ghost use Rattle.model.specs.Bytes.{get, put};
 ghost use Rattle.model.specs.Ring.{interval, put_cells, write};
 ghost use Rattle.model.specs.Record.{entries, entries_of};
 ghost use Rattle.ring_theory.specs.Sound.{Sound};
@@ -34,12 +34,17 @@ fn write_stamp(slab: &mut [u8], z: ring::Sizes, stamp: u64, wrapped: bool) -> St
     ensures { Stamp slab.old z.slots z.series z.interval stamp wrapped result.slot result.wrapped slab.new }
 {
     let slot = ring::slot_of(stamp, z.interval, z.slots);
-    let cursor = ring::cursor_of(slab, z.slots, z.series);
+    let before = ring::Slab {
+        bytes: slab,
+        slots: z.slots,
+        series: z.series,
+    };
+    let cursor = before.cursor();
     let flag = flag_after(wrapped, slot, cursor);
     let at = ring::stamp_place(z.slots, z.series, slot);
     field::put_u64(slab, at, stamp);
     Stamped {
-        slot: slot,
+        slot,
         wrapped: flag,
     }
 }
@@ -54,6 +59,29 @@ fn write_cell(slab: &mut [u8], z: ring::Sizes, column: usize, slot: usize, value
     field::put_u64(slab, at, value);
 }
 
+// An entry of a batch, by its fields.
+#[derive(Clone, Copy)]
+pub struct Entry {
+    pub schema: u64,
+    pub column: u64,
+    pub value: u64,
+}
+
+// Entry i of a batch.
+pub fn entry_at(batch: &[u8], i: usize) -> Entry
+    requires { 16 * i + 16 ≤ length batch.now }
+    ensures handle { (result.schema ≡ get 4 batch.now (16 * i)) × (result.column ≡ get 4 batch.now (16 * i + 4)) }
+    ensures in_range { (result.schema < 4294967296) × (result.column < 4294967296) }
+    ensures value { result.value ≡ get 8 batch.now (16 * i + 8) }
+{
+    let at = format::ENTRY * i;
+    Entry {
+        schema: field::get_u32(batch, at),
+        column: field::get_u32(batch, at + format::ENTRY_COLUMN),
+        value: field::get_u64(batch, at + format::ENTRY_VALUE),
+    }
+}
+
 // Stores the values that a batch has for a schema, in order.
 fn write_cells(slab: &mut [u8], z: ring::Sizes, slot: usize, batch: &[u8], schema: u64)
     requires sized { Sized slab.old z.slots z.series }
@@ -61,17 +89,12 @@ fn write_cells(slab: &mut [u8], z: ring::Sizes, slot: usize, batch: &[u8], schem
     ensures { slab.new ≡ put_cells slab.old slot (entries_of schema (entries batch.now)) }
 {
     let count = batch.len() / format::ENTRY;
-    let mut i = 0;
-    while i < count {
-        let s = field::get_u32(batch, format::ENTRY * i);
-        if s != schema {
-            i += 1;
+    for i in 0..count {
+        let entry = entry_at(batch, i);
+        if entry.schema != schema {
             continue;
         }
-        let column = field::get_u32(batch, format::ENTRY * i + format::ENTRY_COLUMN) as usize;
-        let value = field::get_u64(batch, format::ENTRY * i + format::ENTRY_VALUE);
-        write_cell(slab, z, column, slot, value);
-        i += 1;
+        write_cell(slab, z, entry.column as usize, slot, entry.value);
     }
 }
 

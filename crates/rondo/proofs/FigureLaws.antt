@@ -1,14 +1,11 @@
 -- How the figures' answers cross the edge, one law a way: opening's refusal, a number or a figure, nothing, another refusal. Assumes nothing.
+use Rattle.std.specs.Prelude.{Option, Some, None, Result, Ok, Err}
 use Prim.Native.Nat.{ℕ}
 use mathlib.Core.Path.{◌≡◌, refl, sym, ap, ◌∙◌}
 use mathlib.Core.Logic.{◌≢◌}
 use mathlib.Core.List.{List}
 use lib.ListN.{set}
 use lib.IntN.{ℤ}
-use Rattle.model.specs.declared.Panel.{Panel}
-use Rattle.model.specs.declared.Panel.TheVariants as P
-use Rattle.model.specs.declared.Service.{Service}
-use Rattle.model.specs.declared.Service.TheVariants as S
 use Rattle.model.specs.declared.ServiceFigure.{ServiceFigure}
 use Rattle.model.specs.declared.Refusal.{Refusal}
 use Rattle.model.specs.Words.{number_of}
@@ -31,16 +28,16 @@ module _ (a : PanelReply) (old : ℕ) (whole : ℤ) where
   unfolding panel_no shown_as whole_as
   not-shown e = (ap panel_no e, (ap (λ x. shown_as x old) e, ap (λ x. whole_as x whole) e))
 
-  module _ {q : Panel} (r : panel_reply q ≡ a) where
-    pub number-shown : {z : ℤ} → q ≡ P.Shows z → Panelled a 0 1 old z whole
+  module _ {q : Result (Option ℤ) Refusal} (r : panel_reply q ≡ a) where
+    pub number-shown : {z : ℤ} → q ≡ Ok (Some z) → Panelled a 0 1 old z whole
     unfolding panel_reply panel_no shown_as whole_as
     number-shown e = rw (← r, e) (refl, (refl, refl))
 
-    pub nothing_shown : q ≡ P.Nothing → Panelled a 0 0 old whole whole
+    pub nothing_shown : q ≡ Ok None → Panelled a 0 0 old whole whole
     unfolding panel_reply panel_no shown_as whole_as
     nothing_shown e = rw (← r, e) (refl, (refl, refl))
 
-    pub panel_refused : {w : Refusal} {n : ℕ} → q ≡ P.Refused w → n ≡ number_of w → Panelled a n old old whole whole
+    pub panel_refused : {w : Refusal} {n : ℕ} → q ≡ Err w → n ≡ number_of w → Panelled a n old old whole whole
     unfolding panel_reply
     panel_refused e h = rw h (not-shown (ap panel_reply (sym e) ∙ r))
 
@@ -54,16 +51,16 @@ module _ (a : ServiceReply) (old : List ℕ) where
   unfolding service_no service_words
   not_served_lem e = (ap service_no e, ap (λ x. service_words x old) e)
 
-  module _ {q : Service} (r : service_reply q ≡ a) where
-    pub figure_served : {f : ServiceFigure} {ws : List ℕ} → q ≡ S.Gives f → ws ≡ figure_words f → Served a 0 ws old
+  module _ {q : Result (Option ServiceFigure) Refusal} (r : service_reply q ≡ a) where
+    pub figure_served : {f : ServiceFigure} {ws : List ℕ} → q ≡ Ok (Some f) → ws ≡ figure_words f → Served a 0 ws old
     unfolding service_reply service_no service_words
     figure_served e h = rw (← r, e) (refl, h)
 
-    pub nothing_served : q ≡ S.Nothing → Served a 0 (set old 0 0) old
+    pub nothing_served : q ≡ Ok None → Served a 0 (set old 0 0) old
     unfolding service_reply service_no service_words
     nothing_served e = rw (← r, e) (refl, refl)
 
-    pub service_refused : {w : Refusal} {n : ℕ} → q ≡ S.Refused w → n ≡ number_of w → Served a n old old
+    pub service_refused : {w : Refusal} {n : ℕ} → q ≡ Err w → n ≡ number_of w → Served a n old old
     unfolding service_reply
     service_refused e h = rw h (not_served_lem (ap service_reply (sym e) ∙ r))
 

@@ -1,15 +1,9 @@
 -- The words of the edge's contracts, where flags are one number and answers are numbers: what a call is lent, how it is done, the size that a plan needs, a
 -- query's answer, a reader's step. Assumes nothing.
-use Rattle.std.specs.Prelude.{ℕ, zero, suc, List, [], ◌∷◌, get_or}
-use Rattle.model.specs.declared.End.{End}
-use Rattle.model.specs.declared.End.TheVariants.{At, Missing}
-use Rattle.model.specs.declared.Next.{Next}
-use Rattle.model.specs.declared.Next.TheVariants.{Handed, Finished}
+use Rattle.std.specs.Prelude.{ℕ, zero, suc, List, [], ◌∷◌, get_or, Option, Some, None, Result, Ok, Err}
 use Rattle.model.specs.declared.Place.{Place}
 use Rattle.model.specs.declared.Stepped.{Stepped}
 use Rattle.model.specs.declared.Found.{Found}
-use Rattle.model.specs.declared.Queried.{Queried}
-use Rattle.model.specs.declared.Queried.TheVariants as Q
 use Rattle.model.specs.Words.{number_of}
 use Rattle.model.specs.Lent.{Lent}
 use Rattle.model.specs.Query.{QueryReply, found, not_found}
@@ -17,6 +11,8 @@ use Rattle.model.specs.Read.{step}
 use Rattle.model.specs.Store.{Done, Reply, refused, done, wrote, read, done_or}
 use Rattle.flag_bits.specs.Bits.{bit_of}
 use Rattle.fetch.specs.Fetch.{Fetch, fetch_up_to}
+use Rattle.model.specs.declared.Point.{Point}
+use Rattle.model.specs.declared.Refusal.{Refusal}
 
 -- done with the number n as its answer: 0 is accepted, another is refused
 abbrev pub done_as : ℕ → Lent → Done
@@ -46,9 +42,9 @@ count_on (read a) old = old
 -- ---- a query's answer
 
 -- an end's stamp; none is 0, which is no end's stamp
-abbrev pub end_no : End → ℕ
-end_no Missing = 0
-end_no (At t) = t
+abbrev pub end_no : Option ℕ → ℕ
+end_no None = 0
+end_no (Some t) = t
 
 -- the answer's number
 unfoldable pub query_no : QueryReply → ℕ
@@ -69,13 +65,13 @@ found_words f =
     f.tier ∷ end_no f.oldest ∷ end_no f.newest ∷ f.start ∷ f.end ∷ bit_of f.incomplete ∷ f.column ∷ f.from ∷ f.to
     ∷ f.place.slot ∷ f.place.left ∷ []
 
-unfoldable pub queried_no : Queried → ℕ
-queried_no (Q.Answer f) = 0
-queried_no (Q.Refused r) = number_of r
+unfoldable pub queried_no : Result Found Refusal → ℕ
+queried_no (Ok f) = 0
+queried_no (Err r) = number_of r
 
-unfoldable pub queried_words : Queried → List ℕ → List ℕ
-queried_words (Q.Answer f) old = found_words f
-queried_words (Q.Refused r) old = old
+unfoldable pub queried_words : Result Found Refusal → List ℕ → List ℕ
+queried_words (Ok f) old = found_words f
+queried_words (Err r) old = old
 
 -- ---- a reader's step, the place as two numbers
 
@@ -90,11 +86,11 @@ abbrev pub fetch_at : ℕ → List ℕ → ℕ → ℕ → ℕ → List ℕ → 
 fetch_at k s c start end p = fetch_up_to k s c start end (record { slot = get_or p 0 0; left = get_or p 1 0 })
 
 -- 1 for a point, 0 at the end
-unfoldable pub next_no : Next → ℕ
-next_no Finished = 0
-next_no (Handed p) = 1
+unfoldable pub next_no : Option Point → ℕ
+next_no None = 0
+next_no (Some p) = 1
 
 -- the point's stamp and value; the end leaves the old ones
-unfoldable pub point_words : Next → List ℕ → List ℕ
-point_words Finished old = old
-point_words (Handed p) old = p.stamp ∷ p.value ∷ []
+unfoldable pub point_words : Option Point → List ℕ → List ℕ
+point_words None old = old
+point_words (Some p) old = p.stamp ∷ p.value ∷ []

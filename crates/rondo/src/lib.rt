@@ -22,7 +22,7 @@ pub extern "C" fn rondo_image_size(plan: &[u8], size: &mut u64) -> u32
     ensures { (result ≡ plan_check plan.now) × (size.new ≡ stored_unless_refused (plan_check plan.now) size.old (image_length plan.now)) }
 {
     let checked = image::check_plan(plan);
-    let model::Outcome::Accepted = checked else {
+    let Ok(()) = checked else {
         return model::outcome_number(checked);
     };
     *size = image::length_of(plan);
@@ -39,8 +39,7 @@ pub extern "C" fn rondo_create(plan: &[u8], image: &mut [u8], flags: &mut u32) -
     let done = create::create(plan, image, wrapped);
     let created = done.flags;
     *flags = flag_bits::number_of(created);
-    let outcome = done.outcome;
-    model::outcome_number(outcome)
+    model::outcome_number(done.answer)
 }
 
 // Checks an image and works out the flags of its rows, each from the stamps above its ring's cursor. Flags past them stay.
@@ -53,8 +52,7 @@ pub extern "C" fn rondo_open(image: &[u8], flags: &mut u32) -> u32
     let done = open::open(image, wrapped);
     let opened = done.flags;
     *flags = flag_bits::number_of(opened);
-    let outcome = done.outcome;
-    model::outcome_number(outcome)
+    model::outcome_number(done.answer)
 }
 
 // Records one value, given by its 64-bit pattern.
@@ -96,44 +94,21 @@ pub extern "C" fn rondo_record_batch(
     }
     let done = batch::batch_opened(image, *flags, batch, stamp);
     *flags = done.flags;
-    let outcome = done.outcome;
-    model::outcome_number(outcome)
+    model::outcome_number(done.answer)
 }
 
-// An end's stamp; 0 where it is missing.
-fn end_number(end: model::End) -> u64
-    ensures { result ≡ end_no end }
-{
-    match end {
-        model::End::At(t) => t,
-        model::End::Missing => 0,
-    }
-}
-
-// A bool as a number.
-fn bool_number(b: bool) -> u64
-    ensures { result ≡ bit_of b }
-{
-    if b { 1 } else { 0 }
-}
-
-// A query's answer as numbers.
+// A query's answer as numbers; an end that is missing is 0.
 fn found_words(f: model::Found) -> [u64; 11]
     ensures { result ≡ found_words f }
 {
-    let first = f.oldest;
-    let oldest = end_number(first);
-    let last = f.newest;
-    let newest = end_number(last);
-    let incomplete = bool_number(f.incomplete);
     let place = f.place;
     [
         f.tier as u64,
-        oldest,
-        newest,
+        f.oldest.unwrap_or(0),
+        f.newest.unwrap_or(0),
         f.start,
         f.end,
-        incomplete,
+        f.incomplete as u64,
         f.column as u64,
         f.from as u64,
         f.to as u64,
@@ -142,27 +117,25 @@ fn found_words(f: model::Found) -> [u64; 11]
     ]
 }
 
-// A service figure as numbers.
+// A service figure as numbers; an end that is missing is 0.
 fn figure_words(f: model::ServiceFigure) -> [u64; 5]
     ensures { result ≡ figure_words f }
 {
-    let first = f.oldest;
-    let oldest = end_number(first);
-    let last = f.newest;
-    let newest = end_number(last);
+    let oldest = f.oldest.unwrap_or(0);
+    let newest = f.newest.unwrap_or(0);
     [1, f.stamp, f.value, oldest, newest]
 }
 
 // Stores a query's answer, and answers its number.
-fn answer_query(reply: model::Queried, answer: &mut [u64; 11]) -> u32
+fn answer_query(reply: Result<model::Found, model::Refusal>, answer: &mut [u64; 11]) -> u32
     ensures { (result ≡ queried_no reply) × (answer.new ≡ queried_words reply answer.old) }
 {
     match reply {
-        model::Queried::Answer(f) => {
+        Ok(f) => {
             *answer = found_words(f);
             0
         }
-        model::Queried::Refused(r) => model::refusal_number(r),
+        Err(r) => model::refusal_number(r),
     }
 }
 
@@ -189,7 +162,8 @@ pub extern "C" fn rondo_query(
     if opened != 0 {
         return opened;
     }
-    let reply = query::query_numbered(image, flags, handle, tier, start, end);
+    let image = lookup::Image { bytes: image };
+    let reply = query::query_numbered(&image, flags, handle, tier, start, end);
     answer_query(reply, answer)
 }
 
@@ -215,7 +189,8 @@ pub extern "C" fn rondo_query_auto(
     if opened != 0 {
         return opened;
     }
-    let reply = query::auto_numbered(image, flags, handle, start, end);
+    let image = lookup::Image { bytes: image };
+    let reply = query::auto_numbered(&image, flags, handle, start, end);
     answer_query(reply, answer)
 }
 
@@ -242,11 +217,11 @@ pub extern "C" fn rondo_next(
     *place = [to.slot, to.left];
     let next = stepped.next;
     match next {
-        model::Next::Handed(p) => {
+        Some(p) => {
             *point = [p.stamp, p.value];
             1
         }
-        model::Next::Finished => 0,
+        None => 0,
     }
 }
 
@@ -300,18 +275,19 @@ pub extern "C" fn rondo_panel(
     if opened != 0 {
         return opened;
     }
-    let reply = figure::panel_numbered(image, flags, handle, tier);
+    let image = lookup::Image { bytes: image };
+    let reply = figure::panel_numbered(&image, flags, handle, tier);
     match reply {
-        model::Panel::Shows(whole) => {
+        Ok(Some(whole)) => {
             *shown = 1;
             *figure = whole;
             0
         }
-        model::Panel::Nothing => {
+        Ok(None) => {
             *shown = 0;
             0
         }
-        model::Panel::Refused(r) => model::refusal_number(r),
+        Err(r) => model::refusal_number(r),
     }
 }
 
@@ -336,17 +312,18 @@ pub extern "C" fn rondo_service(
     if opened != 0 {
         return opened;
     }
-    let reply = figure::service_numbered(image, flags, handle, tier);
+    let image = lookup::Image { bytes: image };
+    let reply = figure::service_numbered(&image, flags, handle, tier);
     match reply {
-        model::Service::Gives(f) => {
+        Ok(Some(f)) => {
             *figure = figure_words(f);
             0
         }
-        model::Service::Nothing => {
+        Ok(None) => {
             figure[0] = 0;
             0
         }
-        model::Service::Refused(r) => model::refusal_number(r),
+        Err(r) => model::refusal_number(r),
     }
 }
 
@@ -363,10 +340,10 @@ pub extern "C" fn rondo_consolidate(image: &mut [u8], flags: &mut u32, count: &m
     *flags = flag_bits::number_of(filled);
     let answer = done.answer;
     match answer {
-        model::Consolidated::Wrote(k) => {
+        Ok(k) => {
             *count = k;
             0
         }
-        model::Consolidated::Refused(r) => model::refusal_number(r),
+        Err(r) => model::refusal_number(r),
     }
 }

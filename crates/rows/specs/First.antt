@@ -1,9 +1,7 @@
 -- A check's answer: as a list of tests, where it stops and where it goes on; as an enum, by its number. Assumes nothing.
-use Rattle.std.specs.Prelude.{ℕ, zero, suc, ◌≡◌, refl, Bool, false, List, [], ◌∷◌}
+use Rattle.std.specs.Prelude.{ℕ, zero, suc, ◌≡◌, refl, Bool, false, List, [], ◌∷◌, Result, Ok, Err}
 use Rattle.std.proofs.Common.{arith, sym, ap, ◌∙◌}
 use Rattle.model.specs.declared.Refusal.{Refusal}
-use Rattle.model.specs.declared.Outcome.{Outcome}
-use Rattle.model.specs.declared.Outcome.TheVariants as O
 use Rattle.model.specs.Words.{number_of, number_pos, outcome_no}
 use Rattle.model.specs.Image.{unless, first}
 pub use Rattle.laws.specs.Checks.{unless-on}
@@ -31,8 +29,8 @@ pub refusal_no : (w : Refusal) → number_of w ≡ 0 → ⊥
 refusal_no w e = omega (arith, number_pos w)
 
 -- an answer that is a refusal has not the number 0
-pub not_accepted : {o : Outcome} {w : Refusal} → o ≡ O.Refused w → outcome_no o ≡ 0 → ⊥
+pub not_accepted : {o : Result (Unit {0}) Refusal} {w : Refusal} → o ≡ Err w → outcome_no o ≡ 0 → ⊥
 not_accepted {w = w} e z = refusal_no w (ap outcome_no (sym e) ∙ z)
 
-pub accepted : {o : Outcome} → o ≡ O.Accepted → outcome_no o ≡ 0
+pub accepted : {o : Result (Unit {0}) Refusal} → o ≡ Ok tt → outcome_no o ≡ 0
 accepted e = ap outcome_no e

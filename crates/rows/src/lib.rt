@@ -3,27 +3,10 @@
 #![tactic(auto)]
 
 ghost use Rattle.std.specs.Prelude.{◌≡◌, true, ◌+◌, ◌*◌, ◌<◌, ◌≤◌, length};
-ghost use Rattle.model.specs.Words.{outcome_no};
+ghost use Rattle.model.specs.Bytes.{get};
 ghost use Rattle.model.specs.Image.{unless, header, row_at, follows, row_shape, blank_row, every, shape, blank};
 ghost use Rattle.rows.specs.Rows.{rows_to, good_rows};
-ghost use Rattle.rows.specs.Checks.{Checks, checked_no};
-
-// A row that was checked: the row, or what it is refused by.
-#[derive(Clone, Copy)]
-pub enum Checked {
-    Good(model::Row),
-    Refused(model::Refusal),
-}
-
-// What a checked row is refused by, as a call's answer.
-pub fn outcome_of(c: Checked) -> model::Outcome
-    ensures { outcome_no result ≡ checked_no c }
-{
-    match c {
-        Checked::Good(_) => model::Outcome::Accepted,
-        Checked::Refused(why) => model::Outcome::Refused(why),
-    }
-}
+ghost use Rattle.rows.specs.Checks.{Checks};
 
 // Row i.
 pub fn row_at(s: &[u8], i: usize) -> model::Row
@@ -82,47 +65,83 @@ fn row_blank(r: model::Row) -> bool
     (r.offset == 0) & (r.len == 0) & (r.mark == 0)
 }
 
-// Row i, if its schema, function and mark are in range.
-pub fn checked_row(s: &[u8], i: usize, schemas: u64) -> Checked
-    requires { 32 + 64 * i + 64 ≤ length s.now }
-    ensures { Checks result (row_at s.now i) (unless (row_shape schemas (row_at s.now i)) 1) }
-{
-    let r = row_at(s, i);
-    let good = row_shaped(schemas, r);
-    if good {
-        return Checked::Good(r);
-    }
-    Checked::Refused(model::Refusal::BadImage)
+// The rows of a plan or an image: `count` of them, behind the header.
+#[derive(Clone, Copy)]
+pub struct Table<'a> {
+    pub bytes: &'a [u8],
+    pub count: usize,
+    ghost inside: { 32 + 64 * count ≤ length bytes.now },
 }
 
-// The rows stand in order, and each is in range.
-pub fn rows_good(s: &[u8], n: usize, schemas: u64) -> bool
-    requires { 32 + 64 * n ≤ length s.now }
-    ensures { result ≡ good_rows schemas (rows_to s.now n 0) }
-{
-    if n == 0 {
-        return true;
+impl<'a> Table<'a> {
+    // As many rows as the header says.
+    pub fn of(bytes: &'a [u8]) -> Table<'a>
+        requires { 32 + 64 * get 4 bytes.now 12 ≤ length bytes.now }
+        ensures { (result.bytes.now ≡ bytes.now) × (result.count ≡ get 4 bytes.now 12) }
+    {
+        let count = field::get_u32(bytes, format::HEADER_ROWS) as usize;
+        Table { bytes, count }
     }
-    let Checked::Good(first) = checked_row(s, 0, schemas) else {
-        return false;
-    };
-    if first.tier != 0 {
-        return false;
+
+    // Row i.
+    pub fn row(&self, i: usize) -> model::Row
+        requires { i < self.now.count }
+        ensures { result ≡ row_at self.now.bytes.now i }
+    {
+        row_at(self.bytes, i)
     }
-    let mut p = first;
-    let mut i = 1;
-    while i < n {
-        let Checked::Good(q) = checked_row(s, i, schemas) else {
+
+    // Row i, if its schema, function and mark are in range.
+    pub fn checked_row(&self, i: usize, schemas: u64) -> Result<model::Row, model::Refusal>
+        requires { i < self.now.count }
+        ensures { Checks result (row_at self.now.bytes.now i) (unless (row_shape schemas (row_at self.now.bytes.now i)) 1) }
+    {
+        let r = self.row(i);
+        let good = row_shaped(schemas, r);
+        if good {
+            return Ok(r);
+        }
+        Err(model::Refusal::BadImage)
+    }
+
+    // The rows stand in order, and each is in range.
+    pub fn rows_good(&self, schemas: u64) -> bool
+        ensures { result ≡ good_rows schemas (rows_to self.now.bytes.now self.now.count 0) }
+    {
+        if self.count == 0 {
+            return true;
+        }
+        let Ok(first) = self.checked_row(0, schemas) else {
             return false;
         };
-        let next = row_follows(p, q);
-        if !next {
+        if first.tier != 0 {
             return false;
         }
-        p = q;
-        i += 1;
+        let mut p = first;
+        for i in 1..self.count {
+            let Ok(q) = self.checked_row(i, schemas) else {
+                return false;
+            };
+            let next = row_follows(p, q);
+            if !next {
+                return false;
+            }
+            p = q;
+        }
+        true
     }
-    true
+
+    fn rows_blank(&self) -> bool
+        ensures { result ≡ every blank_row (rows_to self.now.bytes.now self.now.count 0) }
+    {
+        let mut good = true;
+        for i in 0..self.count {
+            let r = self.row(i);
+            let one = row_blank(r);
+            good &= one;
+        }
+        good
+    }
 }
 
 // Header and rows are in shape: what both creation and opening begin with.
@@ -141,22 +160,11 @@ pub fn is_shaped(s: &[u8]) -> bool
     if !head {
         return false;
     }
-    rows_good(s, n as usize, schemas)
-}
-
-fn rows_blank(s: &[u8], n: usize) -> bool
-    requires { 32 + 64 * n ≤ length s.now }
-    ensures { result ≡ every blank_row (rows_to s.now n 0) }
-{
-    let mut good = true;
-    let mut i = 0;
-    while i < n {
-        let r = row_at(s, i);
-        let one = row_blank(r);
-        good = good & one;
-        i += 1;
-    }
-    good
+    let table = Table {
+        bytes: s,
+        count: n as usize,
+    };
+    table.rows_good(schemas)
 }
 
 // A plan's fields that must be zero are.
@@ -165,7 +173,7 @@ pub fn is_blank(s: &[u8]) -> bool
     ensures { result ≡ blank s.now }
 {
     let total = field::get_u64(s, format::HEADER_TOTAL);
-    let n = field::get_u32(s, format::HEADER_ROWS);
-    let rows = rows_blank(s, n as usize);
+    let table = Table::of(s);
+    let rows = table.rows_blank();
     (total == 0) & rows
 }

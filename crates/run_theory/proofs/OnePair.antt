@@ -3,9 +3,8 @@ use Prim.Native.Nat.{ℕ, zero, suc, ◌+◌, ◌-◌, ◌*◌, ◌/◌, ◌^◌
 use Rattle.std.proofs.Math.Nat.{mul_assoc, mul-le-mul_right, div-div-eq-div-mul, mul-add-div_right}
 use Rattle.std.proofs.Common.{mul-pos, div-mul-le_self, le-div_iff_mul-le, sym, ◌∙◌}
 use native.Mathlib.Omega.{arith}
-use Rattle.std.specs.Prelude.{◌≡◌, Bool, true, ltb}
+use Rattle.std.specs.Prelude.{◌≡◌, Bool, true, ltb, Some}
 use Rattle.std.proofs.Math.Path.{refl, ap, subst}
-use Rattle.model.specs.declared.End.TheVariants.{At}
 use Rattle.model.specs.declared.ConsolidationFn.TheVariants.{Average}
 use Rattle.model.specs.Words.{function_no}
 use Rattle.model.specs.Ring.{Ring, newest}
@@ -87,7 +86,7 @@ module _ {S : Setup} {l : Lent} (b : Base S l) (k : ℕ) (hk : suc k < tier_coun
   unfolding last
   last-low = newest-low S k x hk0 (omega arith)
 
-  newest-at : newest (ring l k) ≡ At last
+  newest-at : newest (ring l k) ≡ Some last
   unfolding last
   newest-at = newest-is source'.state first_pos
 

@@ -1,4 +1,5 @@
 -- A schema's tiers one by one, and its checks in their order. Assumes nothing.
+use Rattle.std.specs.Prelude.{Option, Some, None}
 use Prim.Native.Nat.{ℕ, suc, ◌+◌, ◌-◌, ◌^◌, ◌≤◌, ◌<◌}
 use native.Mathlib.Numerals.{add-one}
 use native.Mathlib.Nat.{sub-zero}
@@ -12,8 +13,6 @@ use Rattle.model.specs.declared.Row.{Row}
 use Rattle.model.specs.Image.{first, unless, row_at, row_slots, tiers_of, keep_row, tier_check, tier_checks, rising, schema_check, schema_checks}
 use Rattle.rows.specs.First.{first_stop, first_on, first_one}
 use Rattle.rows.specs.Rows.{rows_to, rows_step, rows_end}
-use Rattle.schema.specs.declared.First.{First}
-use Rattle.schema.specs.declared.First.TheVariants.{At, Missing}
 use Rattle.schema.specs.Tiers.{tiers_at}
 
 -- ---- the rows of schema j
@@ -80,12 +79,12 @@ rising_end s n i j good p h = rw (tiers_end s n i j h) (and-true good)
 
 -- ---- one schema, by where its first tier stands
 
-module _ (f : Row → ℕ) (s : List ℕ) (n j : ℕ) {found : First} (e : tiers_of j (rows_to s n 0) ≡ tiers_at s n j found) where
-  pub schema_2 : found ≡ Missing → 2 ≡ schema_check f (tiers_of j (rows_to s n 0))
+module _ (f : Row → ℕ) (s : List ℕ) (n j : ℕ) {found : Option ℕ} (e : tiers_of j (rows_to s n 0) ≡ tiers_at s n j found) where
+  pub schema_2 : found ≡ None → 2 ≡ schema_check f (tiers_of j (rows_to s n 0))
   unfolding schema_check
   schema_2 m = let z : tiers_of j (rows_to s n 0) ≡ [] = e ∙ ap (tiers_at s n j) m in rw z
 
-  module _ {i : ℕ} (m : found ≡ At i) {r : Row} (is : r ≡ row_at s i) where
+  module _ {i : ℕ} (m : found ≡ Some i) {r : Row} (is : r ≡ row_at s i) where
     abbrev rest : List Row
     rest = tiers_of j (rows_to s n (i + 1))
 

@@ -32,6 +32,18 @@ cells_on s at left h =
     let z : length v ≡ 8 = length-bytes 8 0x7ff8_0000_0000_0000 in
     sym (ap (λ (k : ℕ). splice s at (copies k v)) e ∙ splice-append v (copies (left - 1) v) s at ∙ rw (z, put-splice))
 
+-- the same by the cell's index
+pub cells_next : (s : List ℕ) (from count i : ℕ) → i < count
+    → splice (put 8 s (from + 8 * i) 0x7ff8_0000_0000_0000) (from + 8 * (i + 1)) (copies (count - (i + 1)) (bytes 8 fresh_value))
+    ≡ splice s (from + 8 * i) (copies (count - i) (bytes 8 fresh_value))
+unfolding copies fresh_value
+cells_next s from count i h =
+    let e : count - i ≡ suc (count - (i + 1)) = omega arith in
+    let v = bytes 8 0x7ff8_0000_0000_0000 in
+    let z : length v ≡ 8 = length-bytes 8 0x7ff8_0000_0000_0000 in
+    let on : from + 8 * i + length v ≡ from + 8 * (i + 1) = omega (arith, z) in
+    sym (ap (λ (k : ℕ). splice s (from + 8 * i) (copies k v)) e ∙ splice-append v (copies (count - (i + 1)) v) s (from + 8 * i) ∙ rw (on, put-splice))
+
 pub cells_end : (s : List ℕ) (at left : ℕ) → left ≤ 0 → splice s at (copies left (bytes 8 fresh_value)) ≡ s
 unfolding copies
 cells_end s at left h = let e : left ≡ 0 = omega arith in rw e (splice_nil s at)

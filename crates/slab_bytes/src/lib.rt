@@ -1,4 +1,4 @@
-// A slab: the check of its header against its row (10 CorruptedSlab), and a fresh one. The fill loops are plain, so that they are compiled to wide stores.
+// A slab: the check of its header against its row (10 CorruptedSlab), and a fresh one. The fills are compiled to wide stores.
 #![tactic(auto)]
 
 ghost use Rattle.std.specs.Prelude.{◌≡◌, ◌+◌, ◌-◌, ◌*◌, ◌≤◌, length, replicate};
@@ -50,11 +50,7 @@ pub fn fill(s: &mut [u8], from: usize, end: usize, b: u8)
     requires { (from ≤ end) × (end ≤ length s.old) }
     ensures { s.new ≡ splice s.old from (replicate (end - from) b) }
 {
-    let mut i = from;
-    while i < end {
-        s[i] = b;
-        i += 1;
-    }
+    s[from..end].fill(b);
 }
 
 // The fresh value in `count` cells from `from` on.
@@ -62,12 +58,8 @@ pub fn fill_cells(s: &mut [u8], from: usize, count: usize)
     requires { from + 8 * count ≤ length s.old }
     ensures { s.new ≡ splice s.old from (copies count (bytes 8 fresh_value)) }
 {
-    let mut at = from;
-    let mut left = count;
-    while 0 < left {
-        field::put_u64(s, at, format::FRESH);
-        at = at + 8;
-        left = left - 1;
+    for i in 0..count {
+        field::put_u64(s, from + 8 * i, format::FRESH);
     }
 }
 

@@ -12,23 +12,23 @@ ghost use Rattle.lookup.specs.Parts.{lent_of};
 ghost use Rattle.store.specs.Called.{done_of};
 
 // Creates a plan's image at the start of a lent slice. Later bytes and the flags past the plan's rows stay.
-pub fn create(plan: &[u8], image: &mut [u8], flags: &mut model::Flags) -> model::Outcome
+pub fn create(plan: &[u8], image: &mut [u8], flags: &mut model::Flags) -> Result<(), model::Refusal>
     ensures { (outcome_no result ≡ create_check plan.now image.old) × (lent_of image.new flags.new ≡ creation plan.now (lent_of image.old flags.old)) }
 {
     let old = *flags;
     let done = create::create(plan, image, old);
     *flags = done.flags;
-    done.outcome
+    done.answer
 }
 
 // Opens an image in a lent slice: checks it, and works out the flags of its rows, each from the stamps above its ring's cursor.
-pub fn open(image: &[u8], flags: &mut model::Flags) -> model::Outcome
+pub fn open(image: &[u8], flags: &mut model::Flags) -> Result<(), model::Refusal>
     ensures { (outcome_no result ≡ open_check image.now) × (lent_of image.now flags.new ≡ opening (lent_of image.now flags.old)) }
 {
     let old = *flags;
     let done = open::open(image, old);
     *flags = done.flags;
-    done.outcome
+    done.answer
 }
 
 // Records one value of a series.
@@ -38,13 +38,13 @@ pub fn record(
     handle: model::SeriesHandle,
     value: u64,
     stamp: u64,
-) -> model::Outcome
+) -> Result<(), model::Refusal>
     ensures { done_of (outcome_reply result) (lent_of image.new flags.new) ≡ call (lent_of image.old flags.old) (record_call handle.schema handle.column value stamp) }
 {
     let old = *flags;
     let done = record::record(image, old, handle, value, stamp);
     *flags = done.flags;
-    done.outcome
+    done.answer
 }
 
 // Records a batch at one stamp: entries of 16 bytes each, schema, column and value. All are stored, or none.
@@ -53,17 +53,17 @@ pub fn record_batch(
     flags: &mut model::Flags,
     batch: &[u8],
     stamp: u64,
-) -> model::Outcome
+) -> Result<(), model::Refusal>
     ensures { done_of (outcome_reply result) (lent_of image.new flags.new) ≡ call (lent_of image.old flags.old) (batch_call (entries batch.now) stamp) }
 {
     let old = *flags;
     let done = batch::record_batch(image, old, batch, stamp);
     *flags = done.flags;
-    done.outcome
+    done.answer
 }
 
 // Consolidates every pair of adjacent tiers. Answers how many values were written; a refusal ends the run, and what was done before it stays.
-pub fn consolidate(image: &mut [u8], flags: &mut model::Flags) -> model::Consolidated
+pub fn consolidate(image: &mut [u8], flags: &mut model::Flags) -> Result<u64, model::Refusal>
     ensures { done_of (consolidated_reply result) (lent_of image.new flags.new) ≡ call (lent_of image.old flags.old) consolidate_call }
 {
     let old = *flags;

@@ -8,7 +8,7 @@ ghost use Rattle.model.specs.Query.{query, query_auto, replied_by};
 ghost use Rattle.model.specs.Store.{query_call, auto_call};
 ghost use Rattle.lookup.specs.Parts.{lent_of};
 ghost use Rattle.store_reads.specs.Reads.{reader_of, step_of, later};
-ghost use Rattle.store_reads.specs.Answers.{start_of, Answers};
+ghost use Rattle.store_reads.specs.Answers.{start_of, reader_at, Answers};
 
 // A reader: the slab's bytes, the column and the range, the slot that it stands at and the slots left.
 #[derive(Clone, Copy)]
@@ -24,14 +24,14 @@ pub struct Reader<'a> {
 // A query's answer with the reader of its points. Where the query is refused the reader is at its end.
 #[derive(Clone, Copy)]
 pub struct QueryResult<'a> {
-    pub queried: model::Queried,
+    pub queried: Result<model::Found, model::Refusal>,
     pub reader: Reader<'a>,
 }
 
 // A query's answer, and the reader's fields: its slab is the image from `from` up to `to`.
 #[derive(Clone, Copy)]
 pub struct Start {
-    pub queried: model::Queried,
+    pub queried: Result<model::Found, model::Refusal>,
     pub from: usize,
     pub to: usize,
     pub column: u32,
@@ -42,10 +42,10 @@ pub struct Start {
 }
 
 // Where the reader of an answer starts.
-fn start_of(queried: model::Queried) -> Start
+fn start_of(queried: Result<model::Found, model::Refusal>) -> Start
     ensures { result ≡ start_of queried }
 {
-    let model::Queried::Answer(found) = queried else {
+    let Ok(found) = queried else {
         return Start {
             queried: queried,
             from: 0,
@@ -84,6 +84,26 @@ fn part(s: &[u8], from: usize, to: usize) -> &[u8]
         return &s[from..len];
     }
     &s[..0]
+}
+
+// A query's answer with its reader, over the part of the image that it names.
+fn result_of<'a>(image: &'a [u8], begin: Start) -> QueryResult<'a>
+    ensures queried { result.queried ≡ begin.queried }
+    ensures reader { reader_of result.reader ≡ reader_at image.now begin }
+{
+    let slab = part(image, begin.from, begin.to);
+    let reader = Reader {
+        slab,
+        column: begin.column,
+        start: begin.start,
+        end: begin.end,
+        slot: begin.slot,
+        left: begin.left,
+    };
+    QueryResult {
+        queried: begin.queried,
+        reader,
+    }
 }
 
 // Queries a tier, by value.
@@ -127,19 +147,7 @@ pub fn query<'a>(
     ensures { Answers (lent_of image.now flags) (query_call handle.schema handle.column tier start end) result.queried (reader_of result.reader) }
 {
     let begin = start_query(image, flags, handle, tier, start, end);
-    let slab = part(image, begin.from, begin.to);
-    let reader = Reader {
-        slab,
-        column: begin.column,
-        start: begin.start,
-        end: begin.end,
-        slot: begin.slot,
-        left: begin.left,
-    };
-    QueryResult {
-        queried: begin.queried,
-        reader,
-    }
+    result_of(image, begin)
 }
 
 // Queries a series at the tier that covers the range best.
@@ -153,23 +161,11 @@ pub fn query_auto<'a>(
     ensures { Answers (lent_of image.now flags) (auto_call handle.schema handle.column start end) result.queried (reader_of result.reader) }
 {
     let begin = start_auto(image, flags, handle, start, end);
-    let slab = part(image, begin.from, begin.to);
-    let reader = Reader {
-        slab,
-        column: begin.column,
-        start: begin.start,
-        end: begin.end,
-        slot: begin.slot,
-        left: begin.left,
-    };
-    QueryResult {
-        queried: begin.queried,
-        reader,
-    }
+    result_of(image, begin)
 }
 
 // Hands out the next point of the range, or the end. A reader that is at its end stays there.
-pub fn next<'s, 'a>(r: &'s mut Reader<'a>) -> model::Next
+pub fn next<'s, 'a>(r: &'s mut Reader<'a>) -> Option<model::Point>
     ensures { (result ≡ (step_of r.old).next) × (r.new ≡ later r.old) }
 {
     let slab = r.slab;

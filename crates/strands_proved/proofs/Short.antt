@@ -1,9 +1,8 @@
 -- `RunsReadShort`, proved. Assumes nothing.
-use Rattle.std.specs.Prelude.{ℕ, suc, ◌+◌, ◌-◌, ◌*◌, ◌≤◌, ◌<◌, ◌≡◌}
+use Rattle.std.specs.Prelude.{ℕ, suc, ◌+◌, ◌-◌, ◌*◌, ◌≤◌, ◌<◌, ◌≡◌, Some}
 use Rattle.std.proofs.Common.{one-mul, arith}
 use Rattle.std.proofs.Math.Path.{refl}
 use Rattle.model.specs.declared.ConsolidationFn.{ConsolidationFn}
-use Rattle.model.specs.declared.End.TheVariants.{At}
 use Rattle.model.specs.Image.{row_count}
 use Rattle.model.specs.Ring.{Ring, newest, oldest}
 use Rattle.model.specs.Lent.{Lent, row, ring}
@@ -16,7 +15,7 @@ use Rattle.strand_theory.proofs.Short.{short_cuts_from, short_cuts_any}
 use Rattle.strands_proved.specs.Theorem.{midway, AllHome, home_left, home_midway, midway-row, cursor_in, long_cut, behind_zero}
 use Rattle.strands_proved.specs.Short.{span, Within, Short, RunsReadShort}
 
-end_at : (r : Ring) (u : ℕ) → newest r ≡ At u → end_after (newest r) ≡ suc u
+end_at : (r : Ring) (u : ℕ) → newest r ≡ Some u → end_after (newest r) ≡ suc u
 unfolding end_after
 end_at r u e = rw e refl
 
@@ -33,12 +32,12 @@ module _ (l : Lent) (a : AllHome l) (i : ℕ) (hi : i < row_count l.image) (f : 
   marked none late m w = omega arith
   marked (more cs c) late m w = later (more cs c) (behind_zero l i f c late) m w
 
-  first : {k b : ℕ} → Cuts (job_of l i f) k b → (row l i).mark ≡ 0 → (t u : ℕ) → oldest (ring l i) ≡ At t → newest (ring l i) ≡ At u → u < t + span l i → k ≡ 0
+  first : {k b : ℕ} → Cuts (job_of l i f) k b → (row l i).mark ≡ 0 → (t u : ℕ) → oldest (ring l i) ≡ Some t → newest (ring l i) ≡ Some u → u < t + span l i → k ≡ 0
   first cs e t u old new near =
       let s = start_first (row l i).mark (row l (suc i)).interval t (ring l i) e old in
       omega (arith, marked cs (λ h. absurd (omega (arith, h, e))) 1 (omega (arith, end_at (ring l i) u new, s, near, one-mul (span l i))))
 
-  next : {k b : ℕ} → Cuts (job_of l i f) k b → (row l (suc i)).interval ≤ (row l i).mark → (u : ℕ) → newest (ring l i) ≡ At u
+  next : {k b : ℕ} → Cuts (job_of l i f) k b → (row l (suc i)).interval ≤ (row l i).mark → (u : ℕ) → newest (ring l i) ≡ Some u
       → u + (row l (suc i)).interval ≤ (row l i).mark + span l i → k ≡ 0
   next none late u new near = refl
   next (more cs c) late u new near =

@@ -1,11 +1,11 @@
 -- What the proofs of tie rest on: what calls, a run and calls leave, and the whole of `demand` by what each call ensures. Assumes nothing.
+use Rattle.std.specs.Prelude.{Result}
 use Prim.Native.Nat.{ℕ, ◌-◌, ◌/◌, ◌^◌}
 use mathlib.Core.Path.{◌≡◌, refl, sym, ap, ◌∙◌}
 use mathlib.Core.List.{List, [], ◌∷◌, ◌++◌}
 use lib.ListN.{length, take}
 use lib.Seq.{sets}
 use Rattle.model.specs.declared.Flags.{Flags}
-use Rattle.model.specs.declared.Queried.{Queried}
 use Rattle.model.specs.Lent.{Lent, creation}
 use Rattle.model.specs.Query.{query, replied_by}
 use Rattle.model.specs.Store.{Call, call, after, consolidate_call, queried_reply}
@@ -15,6 +15,8 @@ use Rattle.image_theory.specs.Calls.{after-append}
 use Rattle.fetch.specs.Fetch.{words}
 use Rattle.tie_calls.specs.Encoded.{calls_in}
 use Rattle.tie.specs.Kept.{situation, Kept, kept}
+use Rattle.model.specs.declared.Found.{Found}
+use Rattle.model.specs.declared.Refusal.{Refusal}
 
 -- ---- calls, a run, calls
 
@@ -26,7 +28,7 @@ carried l cs ds p q r =
 -- ---- the whole
 
 -- creation, the calls and the run, the query, the points: by what each call ensures
-pub demanded : (plan buf : List ℕ) (f : Flags) (before between : List ℕ) (c k : ℕ) {image₀ image : List ℕ} {f₀ f₁ : Flags} (q : Queried) {old out : List ℕ} {n : ℕ}
+pub demanded : (plan buf : List ℕ) (f : Flags) (before between : List ℕ) (c k : ℕ) {image₀ image : List ℕ} {f₀ f₁ : Flags} (q : Result Found Refusal) {old out : List ℕ} {n : ℕ}
     → lent_of image₀ f₀ ≡ creation plan (lent_of buf f)
     → lent_of image f₁ ≡ after (after (lent_of image₀ f₀) (calls_in before ++ consolidate_call ∷ [])) (calls_in between)
     → replied_by image q ≡ query (lent_of image f₁) 0 c k 0 (2 ^ 64 - 1)

@@ -12,7 +12,7 @@ pub fn run_after(
     image: &mut [u8],
     flags: model::Flags,
     calls: &[u8],
-) -> consolidate::Consolidation
+) -> model::Called<Result<u64, model::Refusal>>
     ensures { RanAfter plan.now image.old flags.wrapped (calls_in calls.now) (run_done image.new result) }
 {
     let made = create::create(plan, image, flags);

@@ -16,6 +16,9 @@ use Rattle.laws.specs.Tests.{yes_le, no_le, no_eq}
 use Rattle.flag_bits.specs.Bits.{bits}
 use Rattle.record.specs.Done.{RecordDone}
 use Rattle.batch.specs.Done.{BatchDone}
+use Rattle.tie_calls.specs.declared.Kind.{Kind}
+use Rattle.tie_calls.specs.declared.Kind.TheVariants.{Record, Batch, Query, Auto, Open, Run}
+use Rattle.tie_calls.specs.Kinds.{KindIs}
 use Rattle.tie_calls.specs.Encoded.{batch_size, size_at, record_at, batch_at, query_at, auto_at, handed_at, open_at, call_at, calls_from, calls_in}
 
 -- ---- the size
@@ -28,6 +31,15 @@ module _ (b : List ℕ) (o : ℕ) where
   pub size_other : u32 b o ≢ 1 → size_at b o ≡ 32
   unfolding size_at
   size_other h = rw (no_eq (u32 b o) 1 h)
+
+-- no other kind has a batch's number
+pub not_batch : (k : Kind) {n : ℕ} → KindIs k n → k ≢ Batch → n ≢ 1
+not_batch Record h other z = omega arith
+not_batch Batch h other z = other refl
+not_batch Query h other z = omega arith
+not_batch Auto h other z = omega arith
+not_batch Open h other z = omega arith
+not_batch Run h other z = h.1 z
 
 -- ---- what the call leaves, by its kind
 

@@ -3,22 +3,51 @@
 #![tactic(auto)]
 
 ghost use Rattle.std.specs.Prelude.{◌≡◌, ◌+◌, ◌≤◌, length};
+ghost use Rattle.model.specs.Bytes.{u32};
 ghost use Rattle.model.specs.Lent.{opening};
 ghost use Rattle.model.specs.Store.{call, after, consolidate_call};
 ghost use Rattle.lookup.specs.Parts.{lent_of};
 ghost use Rattle.tie_calls.specs.Encoded.{batch_size, size_at, record_at, batch_at, handed_at, call_at, calls_in};
+ghost use Rattle.tie_calls.specs.Kinds.{KindIs};
+
+// What a call does.
+#[derive(Clone, Copy)]
+enum Kind {
+    Record,
+    Batch,
+    Query,
+    Auto,
+    Open,
+    Run,
+}
+
+// What the call at an offset does, by its number.
+fn kind_at(calls: &[u8], at: usize) -> Kind
+    requires { at + 32 ≤ length calls.now }
+    ensures { KindIs result (u32 calls.now at) }
+{
+    match field::get_u32(calls, at) {
+        0 => Kind::Record,
+        1 => Kind::Batch,
+        2 => Kind::Query,
+        3 => Kind::Auto,
+        4 => Kind::Open,
+        _ => Kind::Run,
+    }
+}
 
 // How many bytes the call at an offset takes.
 fn size_at(calls: &[u8], at: usize) -> usize
     requires { at + 32 ≤ length calls.now }
     ensures { result ≡ size_at calls.now at }
 {
-    let kind = field::get_u32(calls, at);
-    if kind == 1 {
-        let count = field::get_u32(calls, at + 12);
-        return 32 + 16 * (count as usize);
+    match kind_at(calls, at) {
+        Kind::Batch => {
+            let count = field::get_u32(calls, at + 12);
+            32 + 16 * (count as usize)
+        }
+        _ => 32,
     }
-    32
 }
 
 // Carries out the record at an offset. Answers the flags.
@@ -75,23 +104,13 @@ fn carry_one(image: &mut [u8], flags: model::Flags, calls: &[u8], at: usize) -> 
     requires { at + size_at calls.now at ≤ length calls.now }
     ensures { lent_of image.new result ≡ (call (lent_of image.old flags) (call_at calls.now at)).lent }
 {
-    let kind = field::get_u32(calls, at);
-    if kind == 0 {
-        return carry_record(image, flags, calls, at);
+    match kind_at(calls, at) {
+        Kind::Record => carry_record(image, flags, calls, at),
+        Kind::Batch => carry_batch(image, flags, calls, at),
+        Kind::Query | Kind::Auto => flags,
+        Kind::Open => carry_open(image, calls, at),
+        Kind::Run => carry_run(image, flags),
     }
-    if kind == 1 {
-        return carry_batch(image, flags, calls, at);
-    }
-    if kind == 2 {
-        return flags;
-    }
-    if kind == 3 {
-        return flags;
-    }
-    if kind == 4 {
-        return carry_open(image, calls, at);
-    }
-    carry_run(image, flags)
 }
 
 // Carries out the calls, one after the other. Answers the flags.
@@ -101,6 +120,7 @@ pub fn carry_out(image: &mut [u8], flags: model::Flags, calls: &[u8]) -> model::
     let mut next = flags;
     let mut at = 0;
     let mut left = calls.len() / 32;
+    // No `for`: a step is a call's size, and `left` only bounds the number of turns.
     while 0 < left {
         if calls.len() - at < 32 {
             return next;

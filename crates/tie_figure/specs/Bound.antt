@@ -1,8 +1,7 @@
 -- What `tie_figure::panel_after` promises: the bound on the panel's figure about what the code leaves and answers. Assumes nothing.
-use Rattle.std.specs.Prelude.{ℕ, ◌≡◌, List, [], ◌∷◌, ◌++◌, T}
+use Rattle.std.specs.Prelude.{ℕ, ◌≡◌, List, [], ◌∷◌, ◌++◌, T, Option, Result, ℤ}
 use Rattle.std.proofs.Common.{ap, ◌∙◌}
 use Rattle.model.specs.declared.Flags.{Flags}
-use Rattle.model.specs.declared.Panel.{Panel}
 use Rattle.model.specs.Lent.{Lent, creation}
 use Rattle.model.specs.Store.{after, consolidate_call}
 use Rattle.model.specs.Figure.{panel, panel_reply}
@@ -13,9 +12,10 @@ use Rattle.figure_bound.proofs.Theorem.{stronger}
 use Rattle.lookup.specs.Parts.{lent_of}
 use Rattle.tie_calls.specs.Encoded.{calls_in}
 use Rattle.tie.specs.Kept.{situation}
+use Rattle.model.specs.declared.Refusal.{Refusal}
 
 -- l is left, and x is answered
-pub record Near (s : Situation) (l : Lent) (x : Panel) : Type 0 where
+pub record Near (s : Situation) (l : Lent) (x : Result (Option ℤ) Refusal) : Type 0 where
   -- for every situation: image and flags are what the calls leave, the answer is the panel's
   pub left : l ≡ after (after_run s) s.between
   pub asked : panel_reply x ≡ panel_after s
@@ -24,7 +24,7 @@ pub record Near (s : Situation) (l : Lent) (x : Panel) : Type 0 where
       → T (shown_within s.tier (panel_reply x) (sum_of (in_window s.column (tier_interval s) (last_due s)) (samples s)) (count (in_window s.column (tier_interval s) (last_due s)) (samples s)))
 
 -- creation, the calls and the run, the panel: by what each call ensures
-pub near : (plan buf : List ℕ) (f : Flags) (before between : List ℕ) (c k : ℕ) {image₀ image : List ℕ} {f₀ f₁ : Flags} (x : Panel)
+pub near : (plan buf : List ℕ) (f : Flags) (before between : List ℕ) (c k : ℕ) {image₀ image : List ℕ} {f₀ f₁ : Flags} (x : Result (Option ℤ) Refusal)
     → lent_of image₀ f₀ ≡ creation plan (lent_of buf f)
     → lent_of image f₁ ≡ after (after (lent_of image₀ f₀) (calls_in before ++ consolidate_call ∷ [])) (calls_in between)
     → panel_reply x ≡ panel (lent_of image f₁) 0 c k

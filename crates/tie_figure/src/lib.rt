@@ -21,19 +21,19 @@ pub struct Question {
 // What two panels answer.
 #[derive(Clone, Copy)]
 pub struct Panels {
-    pub one: model::Panel,
-    pub other: model::Panel,
+    pub one: Result<Option<i64>, model::Refusal>,
+    pub other: Result<Option<i64>, model::Refusal>,
 }
 
 // The flags as the last call left them, and what the panel answers.
 #[derive(Clone, Copy)]
 pub struct After {
     pub flags: model::Flags,
-    pub panel: model::Panel,
+    pub panel: Result<Option<i64>, model::Refusal>,
 }
 
 // One question.
-fn ask(image: &[u8], q: Question) -> model::Panel
+fn ask(image: &[u8], q: Question) -> Result<Option<i64>, model::Refusal>
     ensures { panel_reply result ≡ answer_to image.now q }
 {
     let flags = q.flags;

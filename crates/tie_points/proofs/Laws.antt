@@ -1,4 +1,5 @@
 -- What the proofs of points rest on: a part cut to its slice, and what a query's answer hands out. Assumes nothing.
+use Rattle.std.specs.Prelude.{Result, Ok, Err}
 use Prim.Native.Nat.{ℕ, ◌-◌, ◌/◌, ◌<◌, min}
 use native.Mathlib.Omega.{arith}
 use native.Mathlib.Decide.{dec_lt}
@@ -8,8 +9,6 @@ use lib.ListN.{length, take, drop}
 use lib.Seq.{take-nil, sets}
 use Rattle.model.specs.declared.Found.{Found}
 use Rattle.model.specs.declared.Point.{Point}
-use Rattle.model.specs.declared.Queried.{Queried}
-use Rattle.model.specs.declared.Queried.TheVariants.{Answer, Refused}
 use Rattle.model.specs.declared.Refusal.{Refusal}
 use Rattle.model.specs.Bytes.{part}
 use Rattle.model.specs.Read.{points_from, points_of}
@@ -54,12 +53,12 @@ pub same_points : (old : List ℕ) {ps qs : List Point} {n : ℕ} {out : List �
 same_points old e h = rw e at h
 
 -- a refused query hands out nothing: none are counted, and every word stays
-pub refused_out : (image : List ℕ) (q : Queried) (old : List ℕ) {r : Refusal} → q ≡ Refused r → WrittenOut (room_for old (handed_out (queried_reply image q))) old old 0
+pub refused_out : (image : List ℕ) (q : Result Found Refusal) (old : List ℕ) {r : Refusal} → q ≡ Err r → WrittenOut (room_for old (handed_out (queried_reply image q))) old old 0
 unfolding handed_out queried_reply read_or replied_by words
 refused_out image q old e = rw (e, take-nil) (refl, refl)
 
 -- an answer hands out the points of the part of the image that it names
-pub answer_out : (image : List ℕ) (q : Queried) (f : Found) → q ≡ Answer f → (to from : ℕ) → to ≡ min f.to (length image) → from ≡ min f.from to
+pub answer_out : (image : List ℕ) (q : Result Found Refusal) (f : Found) → q ≡ Ok f → (to from : ℕ) → to ≡ min f.to (length image) → from ≡ min f.from to
     → points_from f.place.left (take (to - from) (drop from image)) f.column f.start f.end f.place ≡ handed_out (queried_reply image q)
 unfolding handed_out queried_reply read_or replied_by points_of
 answer_out image q f e to from t a =

@@ -25,27 +25,21 @@ fn hand_out(
     fetched.count
 }
 
-// The smaller one.
-fn least(a: usize, b: usize) -> usize
-    ensures { result ≡ min a b }
-{
-    if a < b {
-        return a;
-    }
-    b
-}
-
 // Writes out the points of a query's answer on the image that it was asked of. Answers how many.
-pub fn hand_answer(image: &[u8], queried: model::Queried, out: &mut [u64]) -> usize
+pub fn hand_answer(
+    image: &[u8],
+    queried: Result<model::Found, model::Refusal>,
+    out: &mut [u64],
+) -> usize
     ensures count { result ≡ length (take (length out.old / 2) (handed_out (queried_reply image.now queried))) }
     ensures stored { out.new ≡ sets out.old 0 (words (take (length out.old / 2) (handed_out (queried_reply image.now queried)))) }
 {
-    let model::Queried::Answer(found) = queried else {
+    let Ok(found) = queried else {
         return 0;
     };
     let len = image.len();
-    let to = least(found.to, len);
-    let from = least(found.from, to);
+    let to = found.to.min(len);
+    let from = found.from.min(to);
     let place = found.place;
     hand_out(
         &image[from..to],

@@ -1,10 +1,10 @@
 -- What the proofs of cycle rest on: what creation, calls, an opening and calls leave, by what each ensures; and a question's answer. Assumes nothing.
+use Rattle.std.specs.Prelude.{Result}
 use Prim.Native.Nat.{ℕ}
 use mathlib.Core.Path.{◌≡◌, refl, sym, ap, ◌∙◌}
 use mathlib.Core.Bool.{Bool, true, false}
 use mathlib.Core.List.{List, [], ◌∷◌}
 use Rattle.model.specs.declared.Flags.{Flags}
-use Rattle.model.specs.declared.Queried.{Queried}
 use Rattle.model.specs.Lent.{Lent, creation, opening}
 use Rattle.model.specs.Query.{query, query_auto, replied_by}
 use Rattle.model.specs.Store.{open_call, read_or, call, after, queried_reply}
@@ -14,6 +14,8 @@ use Rattle.lookup.specs.Parts.{lent_of}
 use Rattle.tie_calls.specs.Encoded.{calls_in}
 use Rattle.tie_reopening.specs.declared.Question.{Question}
 use Rattle.tie_reopening.specs.Resumed.{history, asks}
+use Rattle.model.specs.declared.Found.{Found}
+use Rattle.model.specs.declared.Refusal.{Refusal}
 
 one-opening : (l : Lent) (fs : List Bool) → after l (open_call fs ∷ []) ≡ opening (record { image = l.image; flags = fs })
 unfolding after call
@@ -30,7 +32,7 @@ carried plan buf f before handed next {s₁ = s₁} {f₂ = f₂} made ran opene
     let there : lent_of s₁ f₂ ≡ opening (lent_of (after l (calls_in before)).image handed) = opened ∙ ap (λ (s : List ℕ). opening (lent_of s handed)) image in
     went ∙ ap (λ (x : Lent). after x (calls_in next)) (there ∙ sym (after-append (calls_in before) l (open_call handed.wrapped ∷ []) ∙ one-opening (after l (calls_in before)) handed.wrapped))
 
-module _ (s : List ℕ) (f : Flags) (q : Question) (r : Queried) where
+module _ (s : List ℕ) (f : Flags) (q : Question) (r : Result Found Refusal) where
   pub asked_auto : q.automatic ≡ true → replied_by s r ≡ query_auto (lent_of s f) q.handle.schema q.handle.column q.start q.end
       → queried_reply s r ≡ (call (lent_of s f) (asks q)).reply
   unfolding queried_reply asks call

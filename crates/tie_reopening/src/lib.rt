@@ -24,7 +24,7 @@ pub struct Question {
 #[derive(Clone, Copy)]
 pub struct Answer {
     pub flags: model::Flags,
-    pub queried: model::Queried,
+    pub queried: Result<model::Found, model::Refusal>,
     pub count: usize,
 }
 
@@ -48,7 +48,11 @@ fn carry_through(
 }
 
 // Asks a question of a store.
-fn ask(image: &[u8], flags: model::Flags, question: Question) -> model::Queried
+fn ask(
+    image: &[u8],
+    flags: model::Flags,
+    question: Question,
+) -> Result<model::Found, model::Refusal>
     ensures { queried_reply image.now result ≡ (call (lent_of image.now flags) (asks question)).reply }
 {
     if question.automatic {

@@ -1,4 +1,5 @@
 -- What is found in a row's ring; which row is a schema's tier; the choice of a tier, one turn at a time. Assumes nothing.
+use Rattle.std.specs.Prelude.{Option}
 use Prim.Native.Nat.{ℕ, zero, suc, ◌+◌, ◌-◌, ◌≤◌, ◌<◌}
 use native.Mathlib.Nat.{zero-add, add-zero, sub-zero}
 use native.Mathlib.Numerals.{add-one}
@@ -8,7 +9,6 @@ use mathlib.Core.Bool.{Bool, true, false, cond}
 use mathlib.Core.List.{List}
 use lib.Dec.{eqb, ltb}
 use lib.ListN.{length, take, drop, get_or}
-use Rattle.model.specs.declared.End.{End}
 use Rattle.model.specs.declared.Place.{Place}
 use Rattle.model.specs.Bytes.{get, part}
 use Rattle.model.specs.Image.{row_place, row_at, rows_from, rows, row_count, keep_row, tiers_of, slab_of, open_check}
@@ -32,7 +32,7 @@ use Rattle.tiers.specs.Reached.{row-ring, Reached, found_by, AnswerIs, flag_of, 
 
 module _ {s : List ℕ} {i from to n m d : ℕ} (h : SlabAt s i from to n m d) where
   -- what is found in its ring
-  pub reached : (w : Bool) {o e : End} {p : Place} → o ≡ oldest (ring_of (take (to - from) (drop from s)) w) → e ≡ newest (ring_of (take (to - from) (drop from s)) w)
+  pub reached : (w : Bool) {o e : Option ℕ} {p : Place} → o ≡ oldest (ring_of (take (to - from) (drop from s)) w) → e ≡ newest (ring_of (take (to - from) (drop from s)) w)
       → p ≡ first_place (ring_of (take (to - from) (drop from s)) w) → Reached s i w (record { from = from; oldest = o; slot = p.slot; newest = e; to = to; left = p.left })
   reached w o_is e_is p-is = record {
     oldest-is = o_is ∙ rw (part-is h);
@@ -113,7 +113,7 @@ module _ (s : List ℕ) (h : open_check s ≡ 0) (k j : ℕ) {first : ℕ} (firs
 -- ---- the choice: tier j of n, `first` being the row of tier 0, o and e the ends of its ring
 
 module _ (l : Lent) (k j n best start end : ℕ) (more : j < n) {first x : ℕ} (first-is : first ≡ first_row k (rows l.image)) (inv : choose_from l k j (n - j) best start end ≡ x)
-    {o e : End} (o_is : o ≡ oldest (ring l (first + j))) (e_is : e ≡ newest (ring l (first + j))) where
+    {o e : Option ℕ} (o_is : o ≡ oldest (ring l (first + j))) (e_is : e ≡ newest (ring l (first + j))) where
   turn : (i : ℕ) → n - j ≡ suc i → x ≡ cond (full o e start end) j (choose_from l k (j + 1) i (cond (both_ends o e) j best) start end)
   unfolding choose_from row_no
   turn i p = sym inv ∙ rw (p, o_is, e_is, first-is, add-one j)

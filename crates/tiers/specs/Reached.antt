@@ -1,8 +1,7 @@
 -- The words of the contracts about a row's ring as a query finds it, whatever the other flags; about the choice of a tier; about the answer. Assumes nothing.
-use Rattle.std.specs.Prelude.{ℕ, ◌+◌, ◌<◌, ◌≡◌, Bool, false, List, length, get_or}
+use Rattle.std.specs.Prelude.{ℕ, ◌+◌, ◌<◌, ◌≡◌, Bool, false, List, length, get_or, Ok}
 use Rattle.model.specs.declared.Found.{Found}
 use Rattle.model.specs.declared.Place.{Place}
-use Rattle.model.specs.declared.Queried.TheVariants.{Answer}
 use Rattle.model.specs.Image.{row_at, rows, tiers_of, slab_of}
 use Rattle.model.specs.Ring.{Ring, first_place, oldest, newest}
 use Rattle.model.specs.Read.{full, incomplete}
@@ -56,7 +55,7 @@ found_by r c j start end = record {
 
 -- f is the answer of row i, which is tier j, whatever the other flags
 abbrev pub AnswerIs : List ℕ → ℕ → Bool → ℕ → ℕ → ℕ → ℕ → Found → Type 0
-AnswerIs s i w c j start end f = (bs : List Bool) → w ≡ get_or bs i false → replied_by s (Answer f) ≡ found (answered (lent_by s bs) i c j start end)
+AnswerIs s i w c j start end f = (bs : List Bool) → w ≡ get_or bs i false → replied_by s (Ok f) ≡ found (answered (lent_by s bs) i c j start end)
 
 -- ---- the choice, by a number of flags
 

@@ -29,6 +29,18 @@ pub struct Gathered {
     pub value: f64,
 }
 
+// The slab of a source that is read, with the reading's sizes.
+pub fn source_of<'a>(slab: &'a [u8], q: Reading) -> ring::Slab<'a>
+    requires { Readable slab.now q }
+    ensures { (result.bytes.now ≡ slab.now) × (result.slots ≡ q.slots) × (result.series ≡ q.series) }
+{
+    ring::Slab {
+        bytes: slab,
+        slots: q.slots,
+        series: q.series,
+    }
+}
+
 // The start of the window that a stamp falls in.
 pub fn window_of(long: u64, stamp: u64) -> u64
     requires { 0 < long }
@@ -66,7 +78,8 @@ fn held_at(slab: &[u8], q: Reading, window: u64, column: usize, slot: usize) -> 
     requires slot_lt_slots { (slot < q.slots) × (column < q.series) × (window_of q.long window ≡ window) }
     ensures { result ≡ held (job_in slab.now q) window (stamp slab.now slot) (cell slab.now column slot) }
 {
-    let t = ring::stamp_of(slab, q.slots, q.series, slot);
+    let source = source_of(slab, q);
+    let t = source.stamp(slot);
     if t < q.start {
         return model::Held::Outside;
     }
@@ -79,7 +92,7 @@ fn held_at(slab: &[u8], q: Reading, window: u64, column: usize, slot: usize) -> 
     if t - window >= q.long {
         return model::Held::Outside;
     }
-    let v = ring::cell_of(slab, q.slots, q.series, column, slot);
+    let v = source.cell(column, slot);
     held_value(v)
 }
 
@@ -124,15 +137,13 @@ fn gather_values(
     let mut g = Gathered {
         seen: 0,
         finite: 0,
-        value: value,
+        value,
     };
     let mut slot = place.slot;
-    let mut left = place.left;
-    while 0 < left {
+    for _ in 0..place.left {
         let h = held_at(slab, q, window, column, slot);
         g = enter(f, g, h);
         slot = ring::next_slot(q.slots, slot);
-        left = left - 1;
     }
     g
 }

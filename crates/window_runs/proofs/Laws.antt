@@ -1,11 +1,11 @@
 -- The tests of a stamp by the code's order, and one turn of each pass. Assumes nothing.
 use Prim.Native.Nat.{ℕ, zero, suc, ◌+◌, ◌-◌, ◌%◌, ◌≤◌, ◌<◌}
-use native.Mathlib.Nat.{mod-eq_of_lt, add-mod_right, mod-lt, suc-mod, add-zero, add-suc, sub_self}
+use native.Mathlib.Nat.{mod-eq_of_lt, mod-lt, suc-mod, add-zero, add-suc, sub_self}
 use native.Mathlib.Omega.{arith}
 use native.Mathlib.Decide.{dec_lt}
 use mathlib.Core.Path.{◌≡◌, refl, sym, ap, ◌∙◌, subst}
 use mathlib.Core.Bool.{Bool, true, false, cond, and-false, false≢true}
-use mathlib.Core.List.{List, [], ◌∷◌, ◌++◌, append_assoc, append-nil}
+use mathlib.Core.List.{List, [], ◌∷◌, ◌++◌, append_assoc}
 use lib.Dec.{leb}
 use Rattle.model.specs.declared.Place.{Place}
 use Rattle.model.specs.Ring.{stamp, walk}
@@ -129,12 +129,6 @@ module _ (q : Job) (n : ℕ) where
 pub slot_in : (n v : ℕ) → v < n → v ≡ v % n
 slot_in n v h = sym (mod-eq_of_lt h)
 
-pub slot_round : (n v : ℕ) → n ≤ v → v < n + n → v - n ≡ v % n
-slot_round n v h k =
-    let e : v ≡ v - n + n = omega arith in
-    let l : v - n < n = omega arith in
-    sym (ap (λ (x : ℕ). x % n) e ∙ add-mod_right (v - n) n ∙ mod-eq_of_lt l)
-
 -- the place of the slot at v, where the reading ends before b
 abbrev pub place_at : ℕ → ℕ → ℕ → Place
 place_at n b v = record { slot = v % n; left = b - v }
@@ -226,10 +220,7 @@ met_all q n place {v} {end} {low} {p} h e g =
 
 -- ---- the last slots, one more of which is not in the range
 
-pub none_trimmed : (q : Job) (n : ℕ) (p : Place) → p.slot < n → Trimmed q n p p
-none_trimmed q n p h = record { slot_in = h; fewer = omega arith; gap = []; none_in = tt; split = sym (append-nil (walk n p.slot p.left)) }
-
-pub trim_more : (q : Job) (n : ℕ) (p : Place) (left : ℕ) {slot t : ℕ} → p.slot < n → 0 < left → slot ≡ (p.slot + left - 1) % n → t ≡ stamp q.source.slab slot
+pub trim_more : (q : Job) (n : ℕ) (p : Place) (left : ℕ) {slot t : ℕ} → p.slot < n → 0 < left → slot ≡ (p.slot + (left - 1)) % n → t ≡ stamp q.source.slab slot
     → in_range q.start q.end t ≡ false → Trimmed q n p (record { slot = p.slot; left = left }) → Trimmed q n p (record { slot = p.slot; left = left - 1 })
 trim_more q n p left {slot} {t} i h e f o d = record {
   slot_in = d.slot_in;
@@ -242,6 +233,5 @@ trim_more q n p left {slot} {t} i h e f o d = record {
     last : walk n p.slot left ≡ walk n p.slot (left - 1) ++ slot ∷ []
     last =
         let u : left ≡ suc (left - 1) = omega arith in
-        let k : p.slot + (left - 1) ≡ p.slot + left - 1 = omega arith in
-        let s : steps n p.slot (left - 1) ≡ slot = steps_are n p.slot (left - 1) i ∙ ap (λ (x : ℕ). x % n) k ∙ sym e in
+        let s : steps n p.slot (left - 1) ≡ slot = steps_are n p.slot (left - 1) i ∙ sym e in
         ap (walk n p.slot) u ∙ walk_more n p.slot (left - 1) ∙ rw s

@@ -5,7 +5,7 @@ use Prim.Native.Nat.{ℕ, zero, suc, ◌+◌, ◌-◌, ◌≤◌, ◌<◌}
 use Rattle.std.proofs.Math.Nat.{zero-add}
 use native.Mathlib.Omega.{arith}
 use Rattle.std.proofs.Math.Decide.{dec_lt}
-use Rattle.std.specs.Prelude.{◌≡◌, ◌≢◌, Bool, ◌&&◌}
+use Rattle.std.specs.Prelude.{◌≡◌, ◌≢◌, Bool, ◌&&◌, Option, Some, None}
 use Rattle.std.proofs.Math.Path.{refl, ap}
 use Rattle.std.proofs.Common.{sym, ◌∙◌, subst, length-append}
 use Rattle.std.proofs.Math.Bool.{true, false}
@@ -13,8 +13,6 @@ use Rattle.std.proofs.lemmas.Bool.{false≢true}
 use mathlib.Core.List.{List, [], ◌∷◌, ◌++◌, append-nil}
 use Rattle.std.proofs.Math.ListN.{length}
 use Rattle.std.proofs.Math.Dec.{leb, ltb}
-use Rattle.model.specs.declared.End.{End}
-use Rattle.model.specs.declared.End.TheVariants.{At, Missing}
 use Rattle.model.specs.declared.Held.{Held}
 use Rattle.model.specs.declared.Held.TheVariants.{Outside}
 use Rattle.model.specs.Ring.{stamp, cell, slots, order}
@@ -58,22 +56,22 @@ module _ (q : Job) where
       go false e = refl
       go true e = no_le b (window_of q.long t) (f e)
 
-  least_first : (b i : ℕ) (is : List ℕ) (e : End) → (inside (stamp_of i) ≡ true → window_of q.long (stamp_of i) < b) → least_from q b e (i ∷ is) ≡ least_from q b e is
+  least_first : (b i : ℕ) (is : List ℕ) (e : Option ℕ) → (inside (stamp_of i) ≡ true → window_of q.long (stamp_of i) < b) → least_from q b e (i ∷ is) ≡ least_from q b e is
   unfolding least_from lower_if
   least_first b i is e f = rw (not-next b (stamp_of i) f)
 
   -- an empty range has no window
-  none_inside : (b : ℕ) → q.end ≤ q.start → (is : List ℕ) (e : End) → least_from q b e is ≡ e
+  none_inside : (b : ℕ) → q.end ≤ q.start → (is : List ℕ) (e : Option ℕ) → least_from q b e is ≡ e
   none_inside b h [] e = unfold least_from in refl
   none_inside b h (i ∷ is) e = least_first b i is e (λ g. absurd (let k = inside_is g in omega (arith, k.0, k.1))) ∙ none_inside b h is e
 
   pub empty_range : (m : ℕ) (f : Filled) → q.end ≤ q.start → f ≡ fill q f (windows q) m
   unfolding windows
   empty_range m f h =
-      let e : next_window q 0 ≡ Missing = unfold next_window in none_inside 0 h (order q.source) Missing in
+      let e : next_window q 0 ≡ None = unfold next_window in none_inside 0 h (order q.source) None in
       rw e (go (slots q.source.slab))
     where
-      go : (k : ℕ) → f ≡ fill q f (windows_from q k Missing) m
+      go : (k : ℕ) → f ≡ fill q f (windows_from q k None) m
       go zero = unfold windows_from fill in refl
       go (suc k) = unfold windows_from fill in refl
 
@@ -112,7 +110,7 @@ module _ (q : Job) where
   out_none w [] o js k = k
   out_none w (i ∷ is) o js k = ((λ e. absurd (false≢true (sym o.0 ∙ e))), out_none w is o.1 js k)
 
-  least_none : (b : ℕ) (tail : List ℕ) → NoneIn q tail → (is : List ℕ) (e : End) → least_from q b e (is ++ tail) ≡ least_from q b e is
+  least_none : (b : ℕ) (tail : List ℕ) → NoneIn q tail → (is : List ℕ) (e : Option ℕ) → least_from q b e (is ++ tail) ≡ least_from q b e is
   unfolding least_from
   least_none b tail o (i ∷ is) e = least_none b tail o is (lower_if (is_next q b (stamp_of i)) e (window_of q.long (stamp_of i)))
   least_none b tail o [] e = none tail o
@@ -251,7 +249,7 @@ module _ (q : Job) where
 
     -- the slots passed over have no window from the bound on
     module _ (bound : ℕ) (below : (t : ℕ) → t < limit → window_of q.long t < bound) where
-      from_least : (b : ℕ) → bound ≤ b → (is : List ℕ) (e : End) → least_from q b e is ≡ least_from q b e (from q limit is)
+      from_least : (b : ℕ) → bound ≤ b → (is : List ℕ) (e : Option ℕ) → least_from q b e is ≡ least_from q b e (from q limit is)
       from_least b h [] e = unfold from in refl
       from_least b h (i ∷ is) e = go (test i) refl (from_least b h is e)
         where
@@ -282,7 +280,7 @@ module _ (q : Job) where
     pub head : Head limit is
     pub up : rising q 0 is ≡ true
     pub enough : length is ≤ fuel
-    pub next : (b : ℕ) → bound ≤ b → next_window q b ≡ least_from q b Missing is
+    pub next : (b : ℕ) → bound ≤ b → next_window q b ≡ least_from q b None is
     pub same : (w c : ℕ) → bound ≤ w → window_answer q w c ≡ along q w c is
     pub remains : fill q f (windows_from q fuel (next_window q bound)) m ≡ total
 
@@ -297,7 +295,7 @@ module _ (q : Job) where
     head = head-from 0 (order q.source);
     up = r;
     enough = omega (arith, length_from 0 (order q.source));
-    next = λ b h. unfold next_window in from_least 0 0 none b h (order q.source) Missing;
+    next = λ b h. unfold next_window in from_least 0 0 none b h (order q.source) None;
     same = λ w c h. first w c ∙ from-along 0 0 none w c h (order q.source);
     remains = unfold windows in refl;
   }
@@ -318,7 +316,7 @@ module _ (q : Job) where
     head = first is r.head;
     up = rising-first is tail 0 r.up;
     enough = omega (arith, r.enough, length-append is tail);
-    next = λ b h. r.next b h ∙ least_none b tail o is Missing;
+    next = λ b h. r.next b h ∙ least_none b tail o is None;
     same = λ w c h. r.same w c h ∙ same-along w c (is ++ tail) is (last_out w c is tail (subst (Out w) (append-nil tail) (out_none w tail o [] tt)));
     remains = r.remains;
   }
@@ -331,12 +329,12 @@ module _ (q : Job) where
   pub nothing_left : {m : ℕ} {total f : Filled} → Rest m total f [] → f ≡ total
   nothing_left {m} {total} {f} r = go r.fuel (rw (r.next r.bound (omega arith)) at r.remains)
     where
-      go : (k : ℕ) → fill q f (windows_from q k (least_from q r.bound Missing [])) m ≡ total → f ≡ total
+      go : (k : ℕ) → fill q f (windows_from q k (least_from q r.bound None [])) m ≡ total → f ≡ total
       go zero e = unfold least_from windows_from fill in e
       go (suc k) e = unfold least_from windows_from fill in e
 
   -- a window's columns written, one turn less
-  one_turn : (m k w : ℕ) (f : Filled) {total g : Filled} → 0 < k → g ≡ fill_window q f w 0 m → fill q f (windows_from q k (At w)) m ≡ total
+  one_turn : (m k w : ℕ) (f : Filled) {total g : Filled} → 0 < k → g ≡ fill_window q f w 0 m → fill q f (windows_from q k (Some w)) m ≡ total
       → fill q g (windows_from q (k - 1) (next_window q (suc w))) m ≡ total
   unfolding windows_from fill
   one_turn m zero w f l e h = absurd (omega arith)
@@ -356,18 +354,18 @@ module _ (q : Job) where
     later : Above here is
     later = rising_above is here (rising_in 0 i is in_here.0 r.up).1
 
-    stays : (js : List ℕ) → Above here js → least_from q r.bound (At here) js ≡ At here
+    stays : (js : List ℕ) → Above here js → least_from q r.bound (Some here) js ≡ Some here
     unfolding least_from
     stays [] a = refl
-    stays (j ∷ js) a = ap (λ (e : End). least_from q r.bound e js) (go (is_next q r.bound (stamp_of j)) refl) ∙ stays js a.1
+    stays (j ∷ js) a = ap (λ (e : Option ℕ). least_from q r.bound e js) (go (is_next q r.bound (stamp_of j)) refl) ∙ stays js a.1
       where
-        go : (b : Bool) → is_next q r.bound (stamp_of j) ≡ b → lower_if b (At here) (window_of q.long (stamp_of j)) ≡ At here
+        go : (b : Bool) → is_next q r.bound (stamp_of j) ≡ b → lower_if b (Some here) (window_of q.long (stamp_of j)) ≡ Some here
         go false e = unfold lower_if in refl
         go true e =
             unfold lower_if lower is_next in_range in rw (no_lt (window_of q.long (stamp_of j)) here ((a.0 (and_left (inside (stamp_of j)) (leb r.bound (window_of q.long (stamp_of j))) e))))
 
     -- its window is the next one
-    pub next-is : next_window q r.bound ≡ At here
+    pub next-is : next_window q r.bound ≡ Some here
     next-is = r.next r.bound (omega arith) ∙ unfold least_from in (rw (is-next (stamp_of i) in_here.0 bound-low) (unfold lower_if lower in stays is later))
       where
         is-next : (t : ℕ) → inside t ≡ true → r.bound ≤ window_of q.long t → is_next q r.bound t ≡ true
@@ -404,7 +402,7 @@ module _ (q : Job) where
       head = head-from (here + q.long) is;
       up = rising-from (here + q.long) is 0 up_behind;
       enough = omega (arith, r.enough, length_from (here + q.long) is);
-      next = λ b h. r.next b (omega (arith, bound-low)) ∙ least_first b i is Missing (λ g. h) ∙ from_least (here + q.long) (suc here) low b h is Missing;
+      next = λ b h. r.next b (omega (arith, bound-low)) ∙ least_first b i is None (λ g. h) ∙ from_least (here + q.long) (suc here) low b h is None;
       same = λ w c h. r.same w c (omega (arith, bound-low)) ∙ along-first w c i is (λ g k. omega arith) ∙ from-along (here + q.long) (suc here) low w c h is;
       remains = one_turn m r.fuel here f (omega (arith, r.enough)) e (rw next-is at r.remains);
     }

@@ -3,13 +3,11 @@
 use Prim.Native.Nat.{ℕ, zero, suc, ◌≤◌, ◌<◌}
 use native.Mathlib.Omega.{arith}
 use Rattle.std.proofs.Math.Decide.{dec_lt}
-use Rattle.std.specs.Prelude.{◌≡◌, Bool, length, leb, ltb}
+use Rattle.std.specs.Prelude.{◌≡◌, Bool, length, leb, ltb, Option, Some, None}
 use Rattle.std.proofs.Math.Path.{refl, sym, ap, subst}
 use Rattle.std.proofs.Common.{◌∙◌}
 use Rattle.std.proofs.Math.Bool.{true, false, cond, and-false}
 use mathlib.Core.List.{List, [], ◌∷◌, ◌++◌}
-use Rattle.model.specs.declared.End.{End}
-use Rattle.model.specs.declared.End.TheVariants.{At, Missing}
 use Rattle.model.specs.Ring.{stamp, cell, slots, order}
 use Rattle.model.specs.Window.{Job, window_of, held, held_in, window_answer}
 use Rattle.model.specs.Consolidate.{Filled, lower, lower_if, is_next, least_from, next_window, windows_from, windows, write_answer, unless_refused, fill_window, fill}
@@ -20,12 +18,12 @@ use Rattle.window_theory.specs.Every.{one, many, many-length, next_no_lem, fewer
 
 -- ---- turns that are never used
 
-none_found : (q : Job) (k : ℕ) → windows_from q k Missing ≡ []
+none_found : (q : Job) (k : ℕ) → windows_from q k None ≡ []
 unfolding windows_from
 none_found q zero = refl
 none_found q (suc k) = refl
 
-one_found : (q : Job) (k w : ℕ) → windows_from q (suc k) (At w) ≡ w ∷ windows_from q k (next_window q (suc w))
+one_found : (q : Job) (k w : ℕ) → windows_from q (suc k) (Some w) ≡ w ∷ windows_from q k (next_window q (suc w))
 unfolding windows_from
 one_found q k w = refl
 
@@ -40,15 +38,15 @@ module _ (q : Job) (z : 0 < q.long) where
   spare : (k a : ℕ) → many q a is ≤ k → windows_from q (suc k) (next_window q a) ≡ windows_from q k (next_window q a)
   spare zero a l = go (next_window q a) refl
     where
-      go : (e : End) → next_window q a ≡ e → windows_from q 1 e ≡ windows_from q 0 e
-      go Missing f = none_found q 1 ∙ sym (none_found q 0)
-      go (At w) f = absurd (omega (arith, fewer q z a w f))
+      go : (e : Option ℕ) → next_window q a ≡ e → windows_from q 1 e ≡ windows_from q 0 e
+      go None f = none_found q 1 ∙ sym (none_found q 0)
+      go (Some w) f = absurd (omega (arith, fewer q z a w f))
   spare (suc k) a l = go (next_window q a) refl (spare k)
     where
-      go : (e : End) → next_window q a ≡ e → ((c : ℕ) → many q c is ≤ k → windows_from q (suc k) (next_window q c) ≡ windows_from q k (next_window q c))
+      go : (e : Option ℕ) → next_window q a ≡ e → ((c : ℕ) → many q c is ≤ k → windows_from q (suc k) (next_window q c) ≡ windows_from q k (next_window q c))
           → windows_from q (suc (suc k)) e ≡ windows_from q (suc k) e
-      go Missing f ih = none_found q (suc (suc k)) ∙ sym (none_found q (suc k))
-      go (At w) f ih = unfold windows_from in ap (λ (ws : List ℕ). w ∷ ws) (ih (suc w) (omega (arith, fewer q z a w f)))
+      go None f ih = none_found q (suc (suc k)) ∙ sym (none_found q (suc k))
+      go (Some w) f ih = unfold windows_from in ap (λ (ws : List ℕ). w ∷ ws) (ih (suc w) (omega (arith, fewer q z a w f)))
 
 -- ---- the cut
 
@@ -87,58 +85,58 @@ module _ (q : Job) (z : 0 < q.long) (b : ℕ) (edge : window_of q.long b ≡ b) 
   unfolding is_next
   second-part a t h = (rw (yes_le q.start t (omega arith), yes_le b t h), rw (no_lt t b h, and-false (leb q.start t)))
 
-  abbrev Low : End → Type 0
-  Low Missing = Unit {0}
-  Low (At w) = w < b
+  abbrev Low : Option ℕ → Type 0
+  Low None = Unit {0}
+  Low (Some w) = w < b
 
-  abbrev High : End → Type 0
-  High Missing = Unit {0}
-  High (At w) = b ≤ w
+  abbrev High : Option ℕ → Type 0
+  High None = Unit {0}
+  High (Some w) = b ≤ w
 
-  or_else : End → End → End
-  or_else Missing d = d
-  or_else (At w) d = At w
+  or_else : Option ℕ → Option ℕ → Option ℕ
+  or_else None d = d
+  or_else (Some w) d = Some w
 
-  lower-low : (e : End) (w : ℕ) → Low e → w < b → Low (lower e w)
+  lower-low : (e : Option ℕ) (w : ℕ) → Low e → w < b → Low (lower e w)
   unfolding lower
-  lower-low Missing w l h = h
-  lower-low (At v) w l h = go (ltb w v)
+  lower-low None w l h = h
+  lower-low (Some v) w l h = go (ltb w v)
     where
       go : (x : Bool) → cond x w v < b
       go true = h
       go false = l
 
-  lower_high : (d : End) (w : ℕ) → High d → b ≤ w → High (lower d w)
+  lower_high : (d : Option ℕ) (w : ℕ) → High d → b ≤ w → High (lower d w)
   unfolding lower
-  lower_high Missing w l h = h
-  lower_high (At v) w l h = go (ltb w v)
+  lower_high None w l h = h
+  lower_high (Some v) w l h = go (ltb w v)
     where
       go : (x : Bool) → b ≤ cond x w v
       go true = h
       go false = l
 
-  lower-first : (e d : End) (w : ℕ) → High d → w < b → lower (or_else e d) w ≡ or_else (lower e w) d
+  lower-first : (e d : Option ℕ) (w : ℕ) → High d → w < b → lower (or_else e d) w ≡ or_else (lower e w) d
   unfolding lower or_else
-  lower-first (At v) d w l h = refl
-  lower-first Missing Missing w l h = refl
-  lower-first Missing (At v) w l h = rw (yes_lt w v (omega arith))
+  lower-first (Some v) d w l h = refl
+  lower-first None None w l h = refl
+  lower-first None (Some v) w l h = rw (yes_lt w v (omega arith))
 
-  lower-second : (e d : End) (w : ℕ) → Low e → b ≤ w → lower (or_else e d) w ≡ or_else e (lower d w)
+  lower-second : (e d : Option ℕ) (w : ℕ) → Low e → b ≤ w → lower (or_else e d) w ≡ or_else e (lower d w)
   unfolding lower or_else
-  lower-second Missing d w l h = refl
-  lower-second (At v) d w l h = rw (no_lt w v (omega arith))
+  lower-second None d w l h = refl
+  lower-second (Some v) d w l h = rw (no_lt w v (omega arith))
 
   -- the least of the whole is the first part's, or else the second's
-  record Two (a : ℕ) (js : List ℕ) (e d : End) : Type 0 where
+  record Two (a : ℕ) (js : List ℕ) (e d : Option ℕ) : Type 0 where
     low : Low (least_from early a e js)
     high : High (least_from late a d js)
     both : least_from q a (or_else e d) js ≡ or_else (least_from early a e js) (least_from late a d js)
 
-  two : (a : ℕ) (js : List ℕ) (e d : End) → Low e → High d → Two a js e d
+  two : (a : ℕ) (js : List ℕ) (e d : Option ℕ) → Low e → High d → Two a js e d
   two a [] e d l h = record { low = unfold least_from in l; high = unfold least_from in h; both = unfold least_from in refl }
   two a (i ∷ js) e d l h = go (two a js) (dec_lt (stamp_of i) b)
     where
-      go : ((e d : End) → Low e → High d → Two a js e d) → Dec (stamp_of i < b) → Two a (i ∷ js) e d
+      go : ((e d : Option ℕ) → Low e → High d → Two a js e d) → Dec (stamp_of i < b) → Two a (i ∷ js) e d
       go ih (yes k) = by (is_next early a (stamp_of i)) refl
         where
           p : (is_next q a (stamp_of i) ≡ is_next early a (stamp_of i)) × (is_next late a (stamp_of i) ≡ false)
@@ -187,15 +185,15 @@ module _ (q : Job) (z : 0 < q.long) (b : ℕ) (edge : window_of q.long b ≡ b) 
   abbrev is_all : List ℕ
   is_all = order q.source
 
-  at_first : (a : ℕ) → Two a is_all Missing Missing
-  at_first a = two a is_all Missing Missing tt tt
+  at_first : (a : ℕ) → Two a is_all None None
+  at_first a = two a is_all None None tt tt
 
   next_both : (a : ℕ) → next_window q a ≡ or_else (next_window early a) (next_window late a)
   unfolding next_window or_else
   next_both a = (at_first a).both
 
   -- bounds up to b are one to the second part, and those from b on leave the first nothing
-  free : (a c : ℕ) → a ≤ b → c ≤ b → (js : List ℕ) (d : End) → least_from late a d js ≡ least_from late c d js
+  free : (a c : ℕ) → a ≤ b → c ≤ b → (js : List ℕ) (d : Option ℕ) → least_from late a d js ≡ least_from late c d js
   unfolding least_from
   free a c h k [] d = refl
   free a c h k (i ∷ js) d = ap (λ (x : Bool). least_from late a (lower_if x d (win (stamp_of i))) js) (same (dec_lt (stamp_of i) b)) ∙ free a c h k js (lower_if (is_next late c (stamp_of i)) d (win (stamp_of i)))
@@ -206,7 +204,7 @@ module _ (q : Job) (z : 0 < q.long) (b : ℕ) (edge : window_of q.long b ≡ b) 
           let v = win_high (stamp_of i) (omega arith) in
           unfold is_next in rw (yes_le a (win (stamp_of i)) (omega (arith, v)), yes_le c (win (stamp_of i)) (omega (arith, v)))
 
-  none_low : (a : ℕ) → b ≤ a → (js : List ℕ) (e : End) → least_from early a e js ≡ e
+  none_low : (a : ℕ) → b ≤ a → (js : List ℕ) (e : Option ℕ) → least_from early a e js ≡ e
   unfolding least_from lower_if
   none_low a h [] e = refl
   none_low a h (i ∷ js) e = rw (out (dec_lt (stamp_of i) b)) (none_low a h js e)
@@ -226,46 +224,46 @@ module _ (q : Job) (z : 0 < q.long) (b : ℕ) (edge : window_of q.long b ≡ b) 
 
   next_free : (a c : ℕ) → a ≤ b → c ≤ b → next_window late a ≡ next_window late c
   unfolding next_window
-  next_free a c h k = free a c h k is_all Missing
+  next_free a c h k = free a c h k is_all None
 
-  next_none : (a : ℕ) → b ≤ a → next_window early a ≡ Missing
+  next_none : (a : ℕ) → b ≤ a → next_window early a ≡ None
   unfolding next_window
-  next_none a h = none_low a h is_all Missing
+  next_none a h = none_low a h is_all None
 
-  next_low : (a w : ℕ) → next_window early a ≡ At w → w < b
+  next_low : (a w : ℕ) → next_window early a ≡ Some w → w < b
   unfolding next_window
   next_low a w e = subst Low e (at_first a).low
 
-  next_high : (a w : ℕ) → next_window late a ≡ At w → b ≤ w
+  next_high : (a w : ℕ) → next_window late a ≡ Some w → b ≤ w
   unfolding next_window
   next_high a w e = subst High e (at_first a).high
 
-  from_first : (a w : ℕ) → next_window early a ≡ At w → next_window q a ≡ At w
+  from_first : (a w : ℕ) → next_window early a ≡ Some w → next_window q a ≡ Some w
   unfolding or_else
-  from_first a w f = next_both a ∙ ap (λ (x : End). or_else x (next_window late a)) f
+  from_first a w f = next_both a ∙ ap (λ (x : Option ℕ). or_else x (next_window late a)) f
 
-  from_second : (a : ℕ) → next_window early a ≡ Missing → next_window q a ≡ next_window late a
+  from_second : (a : ℕ) → next_window early a ≡ None → next_window q a ≡ next_window late a
   unfolding or_else
-  from_second a f = next_both a ∙ ap (λ (x : End). or_else x (next_window late a)) f
+  from_second a f = next_both a ∙ ap (λ (x : Option ℕ). or_else x (next_window late a)) f
 
   parts : (k a : ℕ) → many q a is_all ≤ k
       → windows_from q k (next_window q a) ≡ windows_from early k (next_window early a) ++ windows_from late k (next_window late a)
   parts zero a l = unfold windows_from in refl
   parts (suc k) a l = go (next_window early a) refl (next_window late a) refl (λ w f. parts k (suc w) (omega (arith, fewer q z a w f)))
     where
-      go : (e : End) → next_window early a ≡ e → (d : End) → next_window late a ≡ d
-          → ((w : ℕ) → next_window q a ≡ At w → windows_from q k (next_window q (suc w)) ≡ windows_from early k (next_window early (suc w)) ++ windows_from late k (next_window late (suc w)))
+      go : (e : Option ℕ) → next_window early a ≡ e → (d : Option ℕ) → next_window late a ≡ d
+          → ((w : ℕ) → next_window q a ≡ Some w → windows_from q k (next_window q (suc w)) ≡ windows_from early k (next_window early (suc w)) ++ windows_from late k (next_window late (suc w)))
           → windows_from q (suc k) (next_window q a) ≡ windows_from early (suc k) e ++ windows_from late (suc k) d
-      go Missing f Missing g ih =
+      go None f None g ih =
           rw (from_second a f ∙ g, none_found q (suc k), none_found early (suc k), none_found late (suc k))
-      go Missing f (At w) g ih =
-          let n : next_window q a ≡ At w = from_second a f ∙ g in
-          let m : next_window early (suc w) ≡ Missing = next_none (suc w) (omega (arith, next_high a w g)) in
+      go None f (Some w) g ih =
+          let n : next_window q a ≡ Some w = from_second a f ∙ g in
+          let m : next_window early (suc w) ≡ None = next_none (suc w) (omega (arith, next_high a w g)) in
           let u : windows_from early k (next_window early (suc w)) ≡ [] = ap (windows_from early k) m ∙ none_found early k in
           rw (n, one_found q k w, none_found early (suc k), one_found late k w)
           (ap (λ (ws : List ℕ). w ∷ ws) (ih w n ∙ ap (λ (ws : List ℕ). ws ++ windows_from late k (next_window late (suc w))) u))
-      go (At w) f d g ih =
-          let n : next_window q a ≡ At w = from_first a w f in
+      go (Some w) f d g ih =
+          let n : next_window q a ≡ Some w = from_first a w f in
           let h : w < b = next_low a w f in
           let l1 : suc w ≤ b = omega (arith, h) in
           let l2 : a ≤ b = omega (arith, h, (found early z a f).0) in
@@ -326,10 +324,10 @@ module _ (q : Job) (z : 0 < q.long) (b : ℕ) (edge : window_of q.long b ≡ b) 
   first_writes m zero a f = unfold windows_from fill in refl
   first_writes m (suc k) a f = go (next_window early a) refl (λ w. first_writes m k (suc w))
     where
-      go : (e : End) → next_window early a ≡ e → ((w : ℕ) (f : Filled) → fill q f (windows_from early k (next_window early (suc w))) m ≡ fill early f (windows_from early k (next_window early (suc w))) m)
+      go : (e : Option ℕ) → next_window early a ≡ e → ((w : ℕ) (f : Filled) → fill q f (windows_from early k (next_window early (suc w))) m ≡ fill early f (windows_from early k (next_window early (suc w))) m)
           → fill q f (windows_from early (suc k) e) m ≡ fill early f (windows_from early (suc k) e) m
-      go Missing g ih = unfold windows_from fill in refl
-      go (At w) g ih =
+      go None g ih = unfold windows_from fill in refl
+      go (Some w) g ih =
           let h : w < b = next_low a w g in
           rw (one_found early k w)
           (one-filled q m w (windows_from early k (next_window early (suc w))) f
@@ -341,10 +339,10 @@ module _ (q : Job) (z : 0 < q.long) (b : ℕ) (edge : window_of q.long b ≡ b) 
   second_writes m zero a f = unfold windows_from fill in refl
   second_writes m (suc k) a f = go (next_window late a) refl (λ w. second_writes m k (suc w))
     where
-      go : (e : End) → next_window late a ≡ e → ((w : ℕ) (f : Filled) → fill q f (windows_from late k (next_window late (suc w))) m ≡ fill late f (windows_from late k (next_window late (suc w))) m)
+      go : (e : Option ℕ) → next_window late a ≡ e → ((w : ℕ) (f : Filled) → fill q f (windows_from late k (next_window late (suc w))) m ≡ fill late f (windows_from late k (next_window late (suc w))) m)
           → fill q f (windows_from late (suc k) e) m ≡ fill late f (windows_from late (suc k) e) m
-      go Missing g ih = unfold windows_from fill in refl
-      go (At w) g ih =
+      go None g ih = unfold windows_from fill in refl
+      go (Some w) g ih =
           let h : b ≤ w = next_high a w g in
           rw (one_found late k w)
           (one-filled q m w (windows_from late k (next_window late (suc w))) f

@@ -5,15 +5,13 @@ use native.Mathlib.Omega.{arith}
 use Rattle.std.proofs.Math.Decide.{dec_lt}
 use Rattle.std.proofs.Math.Path.{◌≡◌, refl}
 use Rattle.std.proofs.Common.{sym, ◌∙◌, subst}
-use Rattle.std.specs.Prelude.{◌⊎◌, Bool, ◌&&◌}
+use Rattle.std.specs.Prelude.{◌⊎◌, Bool, ◌&&◌, Option, Some, None}
 use Rattle.std.proofs.Math.Logic.{inl, inr}
 use Rattle.std.proofs.Math.Bool.{true, false, cond, and-false}
 use Rattle.std.proofs.lemmas.Bool.{false≢true}
 use mathlib.Core.List.{List, [], ◌∷◌}
 use Rattle.std.proofs.Math.ListN.{length}
 use Rattle.std.proofs.Math.Dec.{leb, ltb}
-use Rattle.model.specs.declared.End.{End}
-use Rattle.model.specs.declared.End.TheVariants.{At, Missing}
 use Rattle.model.specs.Ring.{stamp, slots, order}
 use Rattle.model.specs.Window.{Job, window_of}
 use Rattle.model.specs.Consolidate.{lower, lower_if, is_next, least_from, next_window, windows_from, windows}
@@ -39,14 +37,14 @@ module _ (q : Job) where
 
   -- ---- a found window is not above that of any slot from the bound on
 
-  abbrev Upto : End → ℕ → Type 0
-  Upto Missing x = ⊥
-  Upto (At w) x = w ≤ x
+  abbrev Upto : Option ℕ → ℕ → Type 0
+  Upto None x = ⊥
+  Upto (Some w) x = w ≤ x
 
-  lower-upto : (e : End) (v : ℕ) → Upto (lower e v) v
+  lower-upto : (e : Option ℕ) (v : ℕ) → Upto (lower e v) v
   unfolding lower
-  lower-upto Missing v = omega arith
-  lower-upto (At w) v = go (ltb v w) refl
+  lower-upto None v = omega arith
+  lower-upto (Some w) v = go (ltb v w) refl
     where
       go : (t : Bool) → ltb v w ≡ t → cond t v w ≤ v
       go true e = omega arith
@@ -56,22 +54,22 @@ module _ (q : Job) where
           low (yes h) = absurd (false≢true (sym e ∙ yes_lt v w h))
           low (no h) = omega arith
 
-  lower_keeps : (b : Bool) (e : End) (v x : ℕ) → Upto e x → Upto (lower_if b e v) x
+  lower_keeps : (b : Bool) (e : Option ℕ) (v x : ℕ) → Upto e x → Upto (lower_if b e v) x
   unfolding lower_if lower
   lower_keeps false e v x h = h
-  lower_keeps true Missing v x h = absurd h
-  lower_keeps true (At w) v x h = go (ltb v w) refl
+  lower_keeps true None v x h = absurd h
+  lower_keeps true (Some w) v x h = go (ltb v w) refl
     where
       go : (t : Bool) → ltb v w ≡ t → cond t v w ≤ x
       go true e = omega (arith, lt-is v w e)
       go false e = h
 
-  least_keeps : (b x : ℕ) (is : List ℕ) (e : End) → Upto e x → Upto (least_from q b e is) x
+  least_keeps : (b x : ℕ) (is : List ℕ) (e : Option ℕ) → Upto e x → Upto (least_from q b e is) x
   unfolding least_from
   least_keeps b x [] e h = h
   least_keeps b x (i ∷ is) e h = least_keeps b x is (lower_if (is_next q b (stamp_of i)) e (window_at i)) (lower_keeps (is_next q b (stamp_of i)) e (window_at i) x h)
 
-  least_upto : (b i : ℕ) → is_next q b (stamp_of i) ≡ true → (is : List ℕ) (e : End) → Among i is → Upto (least_from q b e is) (window_at i)
+  least_upto : (b i : ℕ) → is_next q b (stamp_of i) ≡ true → (is : List ℕ) (e : Option ℕ) → Among i is → Upto (least_from q b e is) (window_at i)
   unfolding least_from
   least_upto b i h [] e a = absurd a
   least_upto b i h (j ∷ is) e (inl p) =
@@ -132,33 +130,33 @@ module _ (q : Job) where
   many_less b c h (i ∷ is) = omega (arith, one_less b c h (stamp_of i), many_less b c h is)
 
   -- the least was there before, or one of these slots has it
-  passed : (b w : ℕ) → b ≤ w → (is : List ℕ) (e : End) → least_from q b e is ≡ At w → (e ≡ At w) ⊎ (many (suc w) is < many b is)
+  passed : (b w : ℕ) → b ≤ w → (is : List ℕ) (e : Option ℕ) → least_from q b e is ≡ Some w → (e ≡ Some w) ⊎ (many (suc w) is < many b is)
   unfolding least_from many
   passed b w h [] e f = inl f
   passed b w h (i ∷ is) e f = go (is_next q b (stamp_of i)) refl (passed b w h is (lower_if (is_next q b (stamp_of i)) e (window_at i)) f)
     where
-      rest : many (suc w) is < many b is → (e ≡ At w) ⊎ (one (is_next q (suc w) (stamp_of i)) + many (suc w) is < one (is_next q b (stamp_of i)) + many b is)
+      rest : many (suc w) is < many b is → (e ≡ Some w) ⊎ (one (is_next q (suc w) (stamp_of i)) + many (suc w) is < one (is_next q b (stamp_of i)) + many b is)
       rest k = inr (omega (arith, one_less b (suc w) (omega arith) (stamp_of i)))
 
-      here : (d : End) → d ≡ e → lower d (window_at i) ≡ At w → is_next q b (stamp_of i) ≡ true
-          → (e ≡ At w) ⊎ (one (is_next q (suc w) (stamp_of i)) + many (suc w) is < one (is_next q b (stamp_of i)) + many b is)
+      here : (d : Option ℕ) → d ≡ e → lower d (window_at i) ≡ Some w → is_next q b (stamp_of i) ≡ true
+          → (e ≡ Some w) ⊎ (one (is_next q (suc w) (stamp_of i)) + many (suc w) is < one (is_next q b (stamp_of i)) + many b is)
       here d p k n = pick d p k
         where
-          attained : window_at i ≡ w → (e ≡ At w) ⊎ (one (is_next q (suc w) (stamp_of i)) + many (suc w) is < one (is_next q b (stamp_of i)) + many b is)
+          attained : window_at i ≡ w → (e ≡ Some w) ⊎ (one (is_next q (suc w) (stamp_of i)) + many (suc w) is < one (is_next q b (stamp_of i)) + many b is)
           attained g = inr (rw (n, next_no_lem (suc w) (stamp_of i) (omega arith)) (unfold one in omega (arith, many_less b (suc w) (omega arith) is)))
 
-          pick : (d : End) → d ≡ e → lower d (window_at i) ≡ At w
-              → (e ≡ At w) ⊎ (one (is_next q (suc w) (stamp_of i)) + many (suc w) is < one (is_next q b (stamp_of i)) + many b is)
-          pick Missing p k = attained (unfold lower in cc)
-          pick (At v) p k = by (ltb (window_at i) v) (unfold lower in k)
+          pick : (d : Option ℕ) → d ≡ e → lower d (window_at i) ≡ Some w
+              → (e ≡ Some w) ⊎ (one (is_next q (suc w) (stamp_of i)) + many (suc w) is < one (is_next q b (stamp_of i)) + many b is)
+          pick None p k = attained (unfold lower in cc)
+          pick (Some v) p k = by (ltb (window_at i) v) (unfold lower in k)
             where
-              by : (t : Bool) → At (cond t (window_at i) v) ≡ At w
-                  → (e ≡ At w) ⊎ (one (is_next q (suc w) (stamp_of i)) + many (suc w) is < one (is_next q b (stamp_of i)) + many b is)
+              by : (t : Bool) → Some (cond t (window_at i) v) ≡ Some w
+                  → (e ≡ Some w) ⊎ (one (is_next q (suc w) (stamp_of i)) + many (suc w) is < one (is_next q b (stamp_of i)) + many b is)
               by true k = attained (cc)
               by false k = inl (sym p ∙ k)
 
-      go : (a : Bool) → is_next q b (stamp_of i) ≡ a → (lower_if a e (window_at i) ≡ At w) ⊎ (many (suc w) is < many b is)
-          → (e ≡ At w) ⊎ (one (is_next q (suc w) (stamp_of i)) + many (suc w) is < one (is_next q b (stamp_of i)) + many b is)
+      go : (a : Bool) → is_next q b (stamp_of i) ≡ a → (lower_if a e (window_at i) ≡ Some w) ⊎ (many (suc w) is < many b is)
+          → (e ≡ Some w) ⊎ (one (is_next q (suc w) (stamp_of i)) + many (suc w) is < one (is_next q b (stamp_of i)) + many b is)
       go a n (inr k) = rest k
       go false n (inl k) = inl (unfold lower_if in k)
       go true n (inl k) = here e refl (unfold lower_if in k) n
@@ -166,10 +164,10 @@ module _ (q : Job) where
   -- ---- every window is found, with one turn for each slot from the bound on
 
   module _ (z : 0 < q.long) where
-    pub fewer : (b w : ℕ) → next_window q b ≡ At w → many (suc w) (order q.source) < many b (order q.source)
-    fewer b w f = of (passed b w (found q z b f).0 (order q.source) Missing (unfold next_window in f))
+    pub fewer : (b w : ℕ) → next_window q b ≡ Some w → many (suc w) (order q.source) < many b (order q.source)
+    fewer b w f = of (passed b w (found q z b f).0 (order q.source) None (unfold next_window in f))
       where
-        of : (Missing ≡ At w) ⊎ (many (suc w) (order q.source) < many b (order q.source)) → many (suc w) (order q.source) < many b (order q.source)
+        of : (None ≡ Some w) ⊎ (many (suc w) (order q.source) < many b (order q.source)) → many (suc w) (order q.source) < many b (order q.source)
         of (inl e) = let x : ◌≡◌ {A = ℕ} 0 1 = cc in absurd (omega arith)
         of (inr k) = k
 
@@ -179,18 +177,18 @@ module _ (q : Job) where
     all_found (suc k) b i l a h = go (next_window q b) refl (λ w g n. all_found k (suc w) i g a n)
       where
         up : Upto (next_window q b) (window_at i)
-        up = unfold next_window in least_upto b i h (order q.source) Missing a
+        up = unfold next_window in least_upto b i h (order q.source) None a
 
-        go : (e : End) → next_window q b ≡ e
+        go : (e : Option ℕ) → next_window q b ≡ e
             → ((w : ℕ) → many (suc w) (order q.source) ≤ k → is_next q (suc w) (stamp_of i) ≡ true → Among (window_at i) (windows_from q k (next_window q (suc w))))
             → Among (window_at i) (windows_from q (suc k) e)
-        go Missing f ih = absurd (subst (λ (e : End). Upto e (window_at i)) f up)
-        go (At w) f ih = turn (dec_lt w (window_at i))
+        go None f ih = absurd (subst (λ (e : Option ℕ). Upto e (window_at i)) f up)
+        go (Some w) f ih = turn (dec_lt w (window_at i))
           where
             low : w ≤ window_at i
-            low = subst (λ (e : End). Upto e (window_at i)) f up
+            low = subst (λ (e : Option ℕ). Upto e (window_at i)) f up
 
-            turn : Dec (w < window_at i) → Among (window_at i) (windows_from q (suc k) (At w))
+            turn : Dec (w < window_at i) → Among (window_at i) (windows_from q (suc k) (Some w))
             turn (no n) = unfold windows_from in inl (omega (arith, low))
             turn (yes n) = unfold windows_from in inr (ih w (omega (arith, fewer b w f)) (next_yes (suc w) (stamp_of i) (next-is b (stamp_of i) h).0 n))
 
@@ -209,9 +207,9 @@ module _ (q : Job) where
     ascend_from zero b = tt
     ascend_from (suc k) b = go (next_window q b) refl (λ w. ascend_from k (suc w))
       where
-        go : (e : End) → next_window q b ≡ e → ((w : ℕ) → Ascends (suc w) (windows_from q k (next_window q (suc w)))) → Ascends b (windows_from q (suc k) e)
-        go Missing f ih = tt
-        go (At w) f ih = ((found q z b f).0, ih w)
+        go : (e : Option ℕ) → next_window q b ≡ e → ((w : ℕ) → Ascends (suc w) (windows_from q k (next_window q (suc w)))) → Ascends b (windows_from q (suc k) e)
+        go None f ih = tt
+        go (Some w) f ih = ((found q z b f).0, ih w)
 
     pub windows_ascend : Ascends 0 (windows q)
     unfolding windows

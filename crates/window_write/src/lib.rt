@@ -13,7 +13,7 @@ ghost use Rattle.window_write.specs.Parts.{filled_of, Ready};
 pub struct Filling {
     pub wrapped: bool,
     pub writes: u64,
-    pub outcome: model::Outcome,
+    pub outcome: Result<(), model::Refusal>,
 }
 
 // One value of a window, by its pattern.
@@ -36,14 +36,14 @@ fn write_bits(
         return Filling {
             wrapped: filling.wrapped,
             writes: filling.writes,
-            outcome: model::Outcome::Refused(model::Refusal::InvalidValue),
+            outcome: Err(model::Refusal::InvalidValue),
         };
     }
     if !good {
         return Filling {
             wrapped: filling.wrapped,
             writes: filling.writes,
-            outcome: model::Outcome::Refused(model::Refusal::InvalidTimestamp),
+            outcome: Err(model::Refusal::InvalidTimestamp),
         };
     }
     if old {
@@ -53,7 +53,7 @@ fn write_bits(
     Filling {
         wrapped: flag,
         writes: filling.writes + 1,
-        outcome: model::Outcome::Accepted,
+        outcome: Ok(()),
     }
 }
 

@@ -2,141 +2,94 @@
 // that it left, and the stamp and the value's pattern of one slot of the coarser tier.
 #![tactic(auto)]
 
-ghost use Rattle.std.specs.Prelude.{◌≡◌, ◌<◌, length};
+use anyhow::{Context, Result};
+use owned::{Ran, Refused, Store, Tier};
 
-// A fresh store of two tiers, 10 for 90 and 30 for 90.
-fn fresh(image: &mut [u8]) -> model::Flags {
-    let plan =
-        b"RSTO\x01\x00\x00\x00\x01\x00\x00\x00\x02\x00\x00\x00\x00\x00\x00\x00\x00\x00\x00\x00\x00\x00\x00\x00\x00\x00\x00\x00\x00\x00\x00\x00\x00\x00\x00\x00\x0a\x00\x00\x00\x00\x00\x00\x00\x5a\x00\x00\x00\x00\x00\x00\x00\x00\x00\x00\x00\x02\x00\x00\x00\x00\x00\x00\x00\x00\x00\x00\x00\x00\x00\x00\x00\x00\x00\x00\x00\x00\x00\x00\x00\x00\x00\x00\x00\x07\x00\x00\x00\x00\x00\x00\x00\x00\x00\x00\x00\x01\x00\x00\x00\x1e\x00\x00\x00\x00\x00\x00\x00\x5a\x00\x00\x00\x00\x00\x00\x00\x01\x00\x00\x00\x02\x00\x00\x00\x00\x00\x00\x00\x00\x00\x00\x00\x00\x00\x00\x00\x00\x00\x00\x00\x00\x00\x00\x00\x00\x00\x00\x00\x07\x00\x00\x00\x00\x00\x00\x00";
-    let flags = model::Flags {
-        wrapped: [false; 32],
-    };
-    let made = create::create(plan, image, flags);
-    made.flags
-}
+// Two tiers, 10 for 90 and 30 for 90: nine slots and three.
+const TIERS: [Tier; 2] = [
+    Tier {
+        interval: 10,
+        retention: 90,
+    },
+    Tier {
+        interval: 30,
+        retention: 90,
+    },
+];
 
-// Records a value of column 0.
-fn sample(image: &mut [u8], flags: model::Flags, value: u64, stamp: u64) -> model::Flags {
-    let handle = model::SeriesHandle {
-        schema: 0,
-        column: 0,
-    };
-    let done = record::record(image, flags, handle, value, stamp);
-    done.flags
-}
+// The image's length, and where it has the finer tier's mark and its value at 30, and the coarser tier's stamps and values, each of column 0.
+const LENGTH: usize = 592;
 
-// Consolidates, and writes the answer.
-fn run(image: &mut [u8], flags: model::Flags) -> model::Flags {
-    let done = consolidate::consolidate(image, flags);
-    let answer = done.answer;
-    match answer {
-        model::Consolidated::Wrote(k) => {
-            io::write_all(1, b" wrote ");
-            io::print_decimal(1, k);
-        }
-        model::Consolidated::Refused(r) => {
-            let n = model::refusal_number(r);
-            io::write_all(1, b" refused ");
-            io::print_decimal(1, n as u64);
-        }
+const MARK: usize = 80;
+
+const FINER_AT_30: usize = 328;
+
+const STAMPS: usize = 520;
+
+const VALUES: usize = 544;
+
+const INFINITY: u64 = 0x7ff0_0000_0000_0000;
+
+// Records values of column 0, each at its stamp.
+fn record(store: &mut Store, samples: &[(u64, f64)]) -> Result<(), Refused> {
+    for (stamp, value) in samples {
+        store.sample(0, *value, *stamp)?;
     }
-    done.flags
+    Ok(())
 }
 
-// Writes the finer tier's mark, and the stamp and the value of slot i of the coarser one.
-fn show(image: &[u8], i: usize)
-    requires { (592 ≡ length image.now) × (i < 3) }
-{
-    let mark = field::get_u64(image, 80);
-    let stamp = field::get_u64(image, 520 + 8 * i);
-    let value = field::get_u64(image, 544 + 8 * i);
-    io::write_all(1, b", mark ");
-    io::print_decimal(1, mark);
-    io::write_all(1, b", stamp ");
-    io::print_decimal(1, stamp);
-    io::write_all(1, b" value ");
-    io::print_hex(1, value, 16);
-    io::write_all(1, b"\n");
+// Consolidates, and writes a line on it: `slot` is the coarser tier's.
+fn run(rt: &impl Print, store: &mut Store, example: &str, slot: u8) -> Result<()> {
+    let ran = Ran(store.run());
+    let word = |at: usize| owned::word(store.image(), at).context("past the image's end");
+    let mark = word(MARK)?;
+    let stamp = word(STAMPS + 8 * usize::from(slot))?;
+    let value = word(VALUES + 8 * usize::from(slot))?;
+    println!(rt; "{example} {ran}, mark {mark}, stamp {stamp} value {value:016x}")?;
+    Ok(())
 }
 
-// 1, 2, 4: 7 / 3, rounded once.
-fn thirds(image: &mut [u8])
-    requires { 592 ≡ length image.old }
-{
-    let a = fresh(image);
-    let b = sample(image, a, 0x3ff0_0000_0000_0000, 30);
-    let c = sample(image, b, 0x4000_0000_0000_0000, 40);
-    let d = sample(image, c, 0x4010_0000_0000_0000, 50);
-    io::write_all(1, b"H");
-    run(image, d);
-    show(image, 1);
+// H: 1, 2, 4 give 7 / 3, rounded once.
+fn thirds(rt: &impl Print, store: &mut Store, plan: &[u8]) -> Result<()> {
+    store.create(plan)?;
+    record(store, &[(30, 1.0), (40, 2.0), (50, 4.0)])?;
+    run(rt, store, "H", 1)
 }
 
-// Infinities alone, put into the source's cell, as `record` refuses them: NaN.
-fn infinities(image: &mut [u8])
-    requires { 592 ≡ length image.old }
-{
-    let a = fresh(image);
-    let b = sample(image, a, 0x3ff0_0000_0000_0000, 30);
-    field::put_u64(image, 328, 0x7ff0_0000_0000_0000);
-    io::write_all(1, b"H");
-    run(image, b);
-    show(image, 1);
+// H: infinities alone, put into the source's cell, as `record` refuses them, give NaN.
+fn infinities(rt: &impl Print, store: &mut Store, plan: &[u8]) -> Result<()> {
+    store.create(plan)?;
+    record(store, &[(30, 1.0)])?;
+    store
+        .write(FINER_AT_30, INFINITY)
+        .context("past the image's end")?;
+    run(rt, store, "H", 1)
 }
 
-// 1, 2, 6 at 30, 40, 50 give 3 at 30.
-fn window(image: &mut [u8]) -> model::Flags
-    requires { 592 ≡ length image.old }
-{
-    let a = fresh(image);
-    let b = sample(image, a, 0x3ff0_0000_0000_0000, 30);
-    let c = sample(image, b, 0x4000_0000_0000_0000, 40);
-    let d = sample(image, c, 0x4018_0000_0000_0000, 50);
-    io::write_all(1, b"J");
-    let e = run(image, d);
-    show(image, 1);
-    e
+// J: 1, 2, 6 at 30, 40, 50 give 3 at 30. Then 5 at 60. Then 7 and 9 at 70 and 80: the window at 60 holds 7, the mean of all three (in document 01 alone 8,
+// that of the last two).
+fn windows(rt: &impl Print, store: &mut Store, plan: &[u8]) -> Result<()> {
+    store.create(plan)?;
+    record(store, &[(30, 1.0), (40, 2.0), (50, 6.0)])?;
+    run(rt, store, "J", 1)?;
+    record(store, &[(60, 5.0)])?;
+    run(rt, store, "J", 2)?;
+    record(store, &[(70, 7.0), (80, 9.0)])?;
+    run(rt, store, "J", 2)
 }
 
-// Then 5 at 60.
-fn next_window(image: &mut [u8], flags: model::Flags) -> model::Flags
-    requires { 592 ≡ length image.old }
-{
-    let a = sample(image, flags, 0x4014_0000_0000_0000, 60);
-    io::write_all(1, b"J");
-    let b = run(image, a);
-    show(image, 2);
-    b
+// K: a sample at 10 gives window 0, refused with 13, the mark unmoved.
+fn window_zero(rt: &impl Print, store: &mut Store, plan: &[u8]) -> Result<()> {
+    store.create(plan)?;
+    record(store, &[(10, 1.0)])?;
+    run(rt, store, "K", 0)
 }
 
-// Then 7 and 9 at 70 and 80: the window at 60 holds 7, the mean of all three (in document 01 alone 8, that of the last two).
-fn window_again(image: &mut [u8], flags: model::Flags)
-    requires { 592 ≡ length image.old }
-{
-    let a = sample(image, flags, 0x401c_0000_0000_0000, 70);
-    let b = sample(image, a, 0x4022_0000_0000_0000, 80);
-    io::write_all(1, b"J");
-    run(image, b);
-    show(image, 2);
-}
-
-// A sample at 10: window 0, refused with 13, the mark unmoved.
-fn window_zero(image: &mut [u8])
-    requires { 592 ≡ length image.old }
-{
-    let a = fresh(image);
-    let b = sample(image, a, 0x3ff0_0000_0000_0000, 10);
-    io::write_all(1, b"K");
-    run(image, b);
-    show(image, 0);
-}
-
-fn main() {
-    let mut image = [0u8; 592];
-    thirds(&mut image);
-    infinities(&mut image);
-    let first = window(&mut image);
-    let second = next_window(&mut image, first);
-    window_again(&mut image, second);
-    window_zero(&mut image);
+fn main(rt: HostRuntime) -> Result<()> {
+    let plan = owned::plan(rt.alloc(), &TIERS)?;
+    let mut store = Store::new(rt.alloc(), LENGTH)?;
+    thirds(&rt, &mut store, plan.as_slice())?;
+    infinities(&rt, &mut store, plan.as_slice())?;
+    windows(&rt, &mut store, plan.as_slice())?;
+    window_zero(&rt, &mut store, plan.as_slice())
 }

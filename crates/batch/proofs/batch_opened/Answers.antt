@@ -6,7 +6,6 @@ use Rattle.rows.specs.First.{not_accepted, accepted}
 use Rattle.flag_bits.specs.Bits.{bits}
 use Rattle.flag_bits.specs.One.{lent_at}
 use Rattle.batch.proofs.Laws.{refused, all_fit, recorded}
-use borrow.Author.Rules.{rules}
 use Rattle.batch.proofs.batch_opened.Goals as goal
 
 pub returns-in_default : goal.returns-in_default
@@ -19,12 +18,12 @@ pub store_schemas-next-requires : goal.store_schemas-next-requires
 store_schemas-next-requires c =
     let checked : (let a = c.args in outcome_no c.check_batch-checked.result ≡ batch_check (lent_at a.image.now a.flags) (entries a.batch.now) a.stamp) =
     c.check_batch-checked.ensures.number_is (bits 32 c.args.flags) in
-    let passed : (let a = c.args in 0 ≡ batch_check (lent_at a.image.now a.flags) (entries a.batch.now) a.stamp) = sym (accepted c.in-Accepted.is) ∙ checked in
+    let passed : (let a = c.args in 0 ≡ batch_check (lent_at a.image.now a.flags) (entries a.batch.now) a.stamp) = sym (accepted c.in-Ok.is) ∙ checked in
     let pre = c.requires in record { image_value = pre; batch_value = all_fit _ _ _ pre passed }
 
 pub returns : goal.returns
 returns c =
     let checked : (let a = c.args in outcome_no c.check_batch-checked.result ≡ batch_check (lent_at a.image.now a.flags) (entries a.batch.now) a.stamp) =
     c.check_batch-checked.ensures.number_is (bits 32 c.args.flags) in
-    let passed : (let a = c.args in 0 ≡ batch_check (lent_at a.image.now a.flags) (entries a.batch.now) a.stamp) = sym (accepted c.in-Accepted.is) ∙ checked in
+    let passed : (let a = c.args in 0 ≡ batch_check (lent_at a.image.now a.flags) (entries a.batch.now) a.stamp) = sym (accepted c.in-Ok.is) ∙ checked in
     recorded _ _ _ passed c.store_schemas-next.ensures

@@ -2,7 +2,6 @@
 use mathlib.Core.Path.{sym, ap}
 use Rattle.record.specs.Ready.{lent_by}
 use Rattle.batch.specs.Done.{same_done}
-use borrow.Author.Rules.{rules}
 use Rattle.batch.proofs.record_batch.Goals as goal
 
 pub returns : goal.returns

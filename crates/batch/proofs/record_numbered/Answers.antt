@@ -3,7 +3,6 @@ use mathlib.Core.Path.{sym, ap, ◌∙◌}
 use Rattle.model.specs.Words.{outcome_no}
 use Rattle.rows.specs.First.{not_accepted}
 use Rattle.batch.proofs.Laws.{not_opened}
-use borrow.Author.Rules.{rules}
 use Rattle.batch.proofs.record_numbered.Goals as goal
 
 pub returns-in_default : goal.returns-in_default
@@ -12,4 +11,4 @@ returns-in_default c =
     not_opened _ _ _ _ checked.ensures (not_accepted c.in_default.is)
 
 pub batch_opened-requires : goal.batch_opened-requires
-batch_opened-requires c = sym c.check_image-opened.ensures ∙ ap outcome_no c.in-Accepted.is
+batch_opened-requires c = sym c.check_image-opened.ensures ∙ ap outcome_no c.in-Ok.is

@@ -1,9 +1,7 @@
 -- `batch::store_schema` meets its contract: the slab of the schema's first row is lent on, and what comes back is put in its place. Assumes nothing.
 use native.Mathlib.Nat.{add-zero}
 use mathlib.Core.Path.{◌∙◌}
-use mathlib.Core.List.{List}
 use Rattle.model.specs.Lent.{row_no}
-use Rattle.model.specs.Ring.{ColumnValue}
 use Rattle.model.specs.Record.{entries, entries_of, write_to}
 use Rattle.lookup.specs.Handle.{first_there}
 use Rattle.flag_bits.specs.Bits.{bits}
@@ -14,7 +12,7 @@ use borrow.Author.Rules.{rules}
 use Rattle.batch.proofs.store_schema.Goals as goal
 
 pub slab_at-slab-requires : goal.slab_at-slab-requires
-slab_at-slab-requires c = record { image_value = c.requires.image_value; row_bound = rw c.first_row-row.ensures.0 (first_there _ c.requires.image_value _ c.requires.schema_bound.0) }
+slab_at-slab-requires c = rw c.first_row-row.ensures.0 (first_there _ c.requires.image_value _ c.requires.schema_bound.0)
 
 pub write_batch-after-requires : goal.write_batch-after-requires
 write_batch-after-requires c =

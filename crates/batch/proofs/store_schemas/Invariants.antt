@@ -1,14 +1,10 @@
-use Prim.Native.Nat.{ℕ, ◌-◌}
+use Prim.Native.Nat.{ℕ}
 use mathlib.Core.List.{List}
-use native.Mathlib.Omega.{arith}
-use mathlib.Core.Path.{◌≡◌, refl, sym, ◌∙◌}
+use mathlib.Core.Path.{◌≡◌}
 use lib.ListN.{length}
-use Rattle.model.specs.Image.{schemas}
 use Rattle.model.specs.Record.{entries}
 use Rattle.flag_bits.specs.One.{lent_at}
-use Rattle.lookup.proofs.Laws.{header_in_slice}
-use Rattle.batch.proofs.Laws.{Running, starts, schema_in, goes_on, passes, ends}
-use borrow.Author.Rules.{rules}
+use Rattle.batch.proofs.Laws.{Running}
 use Rattle.batch.proofs.store_schemas.Given as goal
 
 pub record Inv (image₀ : List ℕ) (next₀ : ℕ) (batch : List ℕ) (stamp count : ℕ) (image : List ℕ) (next k : ℕ) : Type 0 where
@@ -17,6 +13,3 @@ pub record Inv (image₀ : List ℕ) (next₀ : ℕ) (batch : List ℕ) (stamp c
 
 abbrev pub invariant-loop-k : goal.invariant-loop-k
 invariant-loop-k l = Inv l.initial.image l.initial.next l.batch l.stamp l.count l.image l.next l.k
-
-abbrev pub decreases-loop-k : goal.decreases-loop-k
-decreases-loop-k l = l.count - l.k

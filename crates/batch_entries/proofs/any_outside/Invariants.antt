@@ -1,18 +1,7 @@
-use Prim.Native.Nat.{ℕ, ◌+◌, ◌-◌, ◌*◌}
-use mathlib.Core.Path.{◌≡◌, sym, ap, ◌∙◌}
-use mathlib.Core.Bool.{true, false, not}
-use mathlib.Core.List.{List, []}
-use Rattle.model.specs.Bytes.{get}
 use Rattle.model.specs.Record.{every_entry}
-use Rattle.lookup.specs.Parts.{finest_of}
-use Rattle.lookup.specs.Handle.{handle_none, handle_at}
-use Rattle.batch_entries.specs.Entries.{fits, fits-is, every-on, every_no, every_end}
-use Rattle.batch_entries.proofs.Laws.{Testing, begins, goes_on, ends}
-use borrow.Author.Rules.{rules}
+use Rattle.batch_entries.specs.Entries.{fits}
+use Rattle.batch_entries.proofs.Laws.{Testing}
 use Rattle.batch_entries.proofs.any_outside.Given as goal
 
 abbrev pub invariant-loop-i : goal.invariant-loop-i
-invariant-loop-i l = Testing (every_entry (fits l.image)) l.batch l.count l.i
-
-abbrev pub decreases-loop-i : goal.decreases-loop-i
-decreases-loop-i l = l.count - l.i
+invariant-loop-i l = Testing (every_entry (fits l.image.bytes.now)) l.batch l.count l.i

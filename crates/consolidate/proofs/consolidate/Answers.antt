@@ -4,7 +4,6 @@ use Rattle.model.specs.Words.{outcome_no}
 use Rattle.model.specs.Image.{open_check}
 use Rattle.rows.specs.First.{accepted, not_accepted}
 use Rattle.consolidate.proofs.Laws.{not_opened, run_done_lem}
-use borrow.Author.Rules.{rules}
 use Rattle.consolidate.proofs.consolidate.Goals as goal
 
 pub returns-in_default : goal.returns-in_default
@@ -14,11 +13,11 @@ returns-in_default c =
 
 pub run_pairs-u-requires : goal.run_pairs-u-requires
 run_pairs-u-requires c =
-    let opened : open_check c.args.image.now ≡ 0 = sym c.check_image-opened.ensures ∙ accepted c.in-Accepted.is in
+    let opened : open_check c.args.image.now ≡ 0 = sym c.check_image-opened.ensures ∙ accepted c.in-Ok.is in
     opened
 
 pub returns : goal.returns
 returns c =
-    let opened : open_check c.args.image.now ≡ 0 = sym c.check_image-opened.ensures ∙ accepted c.in-Accepted.is in
+    let opened : open_check c.args.image.now ≡ 0 = sym c.check_image-opened.ensures ∙ accepted c.in-Ok.is in
     let a = c.args in
     run_done_lem a.image.now a.flags c.run_pairs-u.new.image c.run_pairs-u.result opened c.run_pairs-u.ensures c.answer_of-answer-2.ensures

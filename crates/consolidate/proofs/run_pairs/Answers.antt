@@ -1,22 +1,17 @@
 -- `consolidate::run_pairs` meets its contract: the pairs so far, gone on with those that remain, are all. Assumes nothing.
-use Prim.Native.Nat.{ℕ, suc, ◌+◌, ◌*◌, ◌-◌, ◌≤◌, ◌<◌, ◌^◌}
+use Prim.Native.Nat.{ℕ, suc, ◌+◌, ◌-◌, ◌<◌}
 use native.Mathlib.Omega.{arith}
 use native.Mathlib.Nat.{sub-zero}
 use mathlib.Core.Path.{◌≡◌, refl, sym, ap, ◌∙◌}
 use mathlib.Core.Bool.{true}
-use mathlib.Core.List.{List}
-use borrow.Author.Tests.{not-true, not-false}
-use Rattle.model.specs.declared.Outcome.TheVariants.{Accepted}
 use Rattle.model.specs.Image.{row_count}
-use Rattle.model.specs.Consolidate.{Run, pairs}
+use Rattle.model.specs.Consolidate.{pairs}
 use Rattle.laws.specs.Tests.{eq_is}
 use Rattle.rows.specs.First.{accepted, not_accepted}
-use Rattle.pair.specs.declared.Progress.{Progress}
+use Rattle.lookup.proofs.Laws.{some_row}
 use Rattle.pair.specs.Parts.{run_of}
 use Rattle.consolidate.specs.Parts.{fresh}
-use Rattle.consolidate.proofs.Laws.{Goes, goes_same, goes_then, goes_pair, same_schema, skip_row, pair_turn, pair-last, rows_done, few_rows, header-inside}
-use borrow.Author.Rules.{rules}
-use Rattle.consolidate.proofs.run_pairs.Invariants.{Inv}
+use Rattle.consolidate.proofs.Laws.{goes_same, goes_then, goes_pair, same_schema, skip_row, pair_turn, pair-last, rows_done, few_rows, header-inside}
 use Rattle.consolidate.proofs.run_pairs.Goals as goal
 
 pub get_u32-n-requires : goal.get_u32-n-requires
@@ -31,21 +26,21 @@ loop-i-init c =
       goes = goes_same s c.requires;
       rows_are = sym n;
       few_rows = omega (arith, n, few_rows s c.requires);
-      few_turns = omega arith;
       accepted = refl;
       few_writes = omega arith;
       same = rw sub-zero (ap (λ (k : ℕ). pairs (fresh s c.args.flags) 0 (k - 1)) n);
     }
 
-pub overflow_add-i : goal.overflow_add-i
-overflow_add-i c = omega (arith, c.loop-i.invariant.few_turns)
+pub overflow_sub-i-end : goal.overflow_sub-i-end
+unfolding row_count
+overflow_sub-i-end c = let r = some_row c.args.image.now c.requires in omega (arith, r, c.get_u32-n.ensures.0)
 
 pub same_schema-same-requires : goal.same_schema-same-requires
 same_schema-same-requires c =
     let next_in : suc c.loop-i.i < row_count c.loop-i.image =
     let v = c.loop-i.invariant in
     omega (arith, v.goes.count-is, v.rows_are, c.loop-i-test.true) in
-    record { image_value = c.loop-i.invariant.goes.opened; row_bound = next_in }
+    next_in
 
 pub loop-i-preserved-then-not-same : goal.loop-i-preserved-then-not-same
 loop-i-preserved-then-not-same c =
@@ -55,7 +50,6 @@ loop-i-preserved-then-not-same c =
       goes = l.invariant.goes;
       rows_are = l.invariant.rows_are;
       few_rows = l.invariant.few_rows;
-      few_turns = omega (arith, l.invariant.few_rows, c.loop-i-test.true);
       accepted = l.invariant.accepted;
       few_writes = omega (arith, l.invariant.few_writes);
       same = skip_row (run_of c.loop-i.image c.loop-i.u) l.i c.get_u32-n.result c.loop-i-test.true l.invariant.same other;
@@ -68,7 +62,7 @@ pair-u-requires c =
     omega (arith, v.goes.count-is, v.rows_are, c.loop-i-test.true) in
     let one_schema : same_schema (run_of c.loop-i.image c.loop-i.u) c.loop-i.i ≡ true = sym c.same_schema-same.ensures ∙ c.if-not-same.false in
     let v = c.loop-i.invariant in
-    record { adjacent = record { opened = v.goes.opened; next_in = next_in; same_schema_lem = eq_is _ _ one_schema }; count_bound = omega (arith, v.few_writes, v.few_turns) }
+    record { adjacent = record { opened = v.goes.opened; next_in = next_in; same_schema_lem = eq_is _ _ one_schema }; count_bound = omega (arith, v.few_writes, v.few_rows, c.loop-i-test.true) }
 
 pub returns-in_default : goal.returns-in_default
 returns-in_default c =
@@ -94,11 +88,10 @@ loop-i-preserved c =
       goes = goes_then c.args.image.now l.image s l.invariant.goes g;
       rows_are = l.invariant.rows_are;
       few_rows = l.invariant.few_rows;
-      few_turns = omega (arith, l.invariant.few_rows, c.loop-i-test.true);
-      accepted = c.in-Accepted.is;
+      accepted = c.in-Ok.is;
       few_writes = omega (arith, c.pair-u.ensures.1, l.invariant.few_writes);
       same = turned;
     }
 
 pub returns : goal.returns
-returns c = rows_done (run_of c.loop-i.image c.loop-i.u) c.loop-i.i c.get_u32-n.result (omega (arith, c.loop-i-test.false)) c.loop-i.invariant.same
+returns c = rows_done (run_of c.loop-i.image c.loop-i.u) c.loop-i.i c.get_u32-n.result c.loop-i-test.false c.loop-i.invariant.same

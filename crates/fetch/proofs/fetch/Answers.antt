@@ -7,7 +7,6 @@ use lib.ListN.{length}
 use Rattle.model.specs.Read.{readable}
 use Rattle.reader.proofs.Laws.{header_there, held}
 use Rattle.fetch.proofs.Turn.{no_room, unread}
-use borrow.Author.Rules.{rules}
 use Rattle.fetch.proofs.fetch.Goals as goal
 
 -- it can be read
@@ -23,9 +22,6 @@ returns-then-points-lt2 c =
     let e = no_room a.slab.now a.column a.start a.end a.points.now a.place c.if-points-lt2.true in
     record { count = e.counted; place = e.placed; stored = e.stored }
 
-pub is_readable-reads-requires : goal.is_readable-reads-requires
-is_readable-reads-requires c = tt
-
 pub get_u32-n-requires : goal.get_u32-n-requires
 get_u32-n-requires c = omega (arith, long c)
 
@@ -36,9 +32,6 @@ pub fetch_from-requires : goal.fetch_from-requires
 fetch_from-requires c =
     let a = c.args in
     record { held = (held a.slab.now a.column a.place (sym c.is_readable-reads.ensures ∙ c.if-reads.true) c.get_u32-n.ensures.0 c.get_u32-m.ensures.0).0; place_value = (sym c.is_readable-reads.ensures ∙ c.if-reads.true) }
-
-pub returns-then-reads : goal.returns-then-reads
-returns-then-reads c = c.fetch_from.ensures
 
 pub returns : goal.returns
 returns c =

@@ -1,17 +1,8 @@
--- `field::put_u32` meets its contract: the stores one by one are one `put`. Assumes nothing.
-use native.Mathlib.Omega.{arith}
-use lib.ListN.{length-set}
-use Rattle.field.proofs.Laws.{stored}
+-- `field::put_u32` meets its contract: the lower four of the library's bytes of x are put. Assumes nothing.
+use Rattle.std.proofs.Common.{◌∙◌, ap, take}
+use Rattle.field.proofs.Laws.{stored, low_bytes}
 use Rattle.field.proofs.put_u32.Goals as goal
 
-pub bounds-s-at-2 : goal.bounds-s-at-2
-bounds-s-at-2 c = simp length-set (omega arith)
-
-pub bounds-s-at-3 : goal.bounds-s-at-3
-bounds-s-at-3 c = simp length-set (omega arith)
-
-pub bounds-s-at-4 : goal.bounds-s-at-4
-bounds-s-at-4 c = simp length-set (omega arith)
-
 pub returns : goal.returns
-returns c = stored 3 c.args.s.now c.args.at c.args.x
+returns c =
+    let a = c.args in stored 4 a.s.now a.at a.x c.requires (c.copy_from_slice.ensures.after ∙ ap (take 4) c.to_le_bytes.ensures ∙ low_bytes 4 a.x)

@@ -1,29 +1,8 @@
--- `field::put_u64` meets its contract: the stores one by one are one `put`. Assumes nothing.
-use native.Mathlib.Omega.{arith}
-use lib.ListN.{length-set}
-use Rattle.field.proofs.Laws.{stored}
+-- `field::put_u64` meets its contract: the library's bytes of x are put. Assumes nothing.
+use Rattle.std.proofs.Common.{◌∙◌}
+use Rattle.field.proofs.Laws.{stored, low_bytes}
 use Rattle.field.proofs.put_u64.Goals as goal
 
-pub bounds-s-at-2 : goal.bounds-s-at-2
-bounds-s-at-2 c = simp length-set (omega arith)
-
-pub bounds-s-at-3 : goal.bounds-s-at-3
-bounds-s-at-3 c = simp length-set (omega arith)
-
-pub bounds-s-at-4 : goal.bounds-s-at-4
-bounds-s-at-4 c = simp length-set (omega arith)
-
-pub bounds-s-at-5 : goal.bounds-s-at-5
-bounds-s-at-5 c = simp length-set (omega arith)
-
-pub bounds-s-at-6 : goal.bounds-s-at-6
-bounds-s-at-6 c = simp length-set (omega arith)
-
-pub bounds-s-at-7 : goal.bounds-s-at-7
-bounds-s-at-7 c = simp length-set (omega arith)
-
-pub bounds-s-at-8 : goal.bounds-s-at-8
-bounds-s-at-8 c = simp length-set (omega arith)
-
 pub returns : goal.returns
-returns c = stored 7 c.args.s.now c.args.at c.args.x
+returns c =
+    let a = c.args in stored 8 a.s.now a.at a.x c.requires (c.copy_from_slice.ensures.after ∙ c.to_le_bytes.ensures ∙ low_bytes 8 a.x)

@@ -2,7 +2,6 @@
 use native.Mathlib.Omega.{arith}
 use Rattle.lookup.proofs.Laws.{starts-before, part-sized}
 use Rattle.figure.proofs.Laws.{column_in, last-at}
-use borrow.Author.Rules.{rules}
 use Rattle.figure.proofs.point_at.Goals as goal
 
 pub slice_bounds-slab-count : goal.slice_bounds-slab-count
@@ -11,8 +10,11 @@ slice_bounds-slab-count c = starts-before c.slab_at-s.ensures
 pub slice_bounds-slab-start : goal.slice_bounds-slab-start
 slice_bounds-slab-start c = omega (arith, starts-before c.slab_at-s.ensures)
 
+pub invariant_of-slab : goal.invariant_of-slab
+invariant_of-slab c = record { sized = part-sized c.slab_at-s.ensures }
+
 pub last_point-requires : goal.last_point-requires
-last_point-requires c = record { sized = part-sized c.slab_at-s.ensures; column_lt_m = column_in c.slab_at-s.ensures c.requires.row_bound.1 }
+last_point-requires c = column_in c.slab_at-s.ensures c.requires.1
 
 pub returns : goal.returns
 returns c = last-at c.slab_at-s.ensures c.args.wrapped c.args.column c.last_point.ensures

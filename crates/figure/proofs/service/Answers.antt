@@ -1,20 +1,15 @@
 -- `figure::service` meets its contract: opening's refusal, or what `service_numbered` answers. Assumes nothing.
-use mathlib.Core.Path.{sym, ap, ◌∙◌}
-use Rattle.model.specs.Words.{outcome_no}
+use Rattle.std.proofs.lemmas.Result.{err_from_is_err_and}
 use Rattle.query.proofs.Laws.{not_opened}
 use Rattle.figure.proofs.Laws.{service_refused}
-use borrow.Author.Rules.{rules}
 use Rattle.figure.proofs.service.Goals as goal
 
-pub returns-in-Refused : goal.returns-in-Refused
-returns-in-Refused c =
+pub returns-in_err-image : goal.returns-in_err-image
+returns-in_err-image c =
     let a = c.args in
-    let number = sym (ap outcome_no c.in-Refused.is) ∙ c.check_image-opened.ensures in
-    let reading = not_opened a.image.now a.flags.wrapped a.handle.schema a.handle.column 0 18446744073709551615 c.in-Refused.why number a.tier in
-    service_refused a.image.now a.flags.wrapped a.handle.schema a.handle.column a.tier c.in-Refused.why reading
-
-pub service_numbered-requires : goal.service_numbered-requires
-service_numbered-requires c = sym c.check_image-opened.ensures ∙ ap outcome_no c.in_default.is
+    let reading = not_opened a.image.now a.flags.wrapped a.handle.schema a.handle.column 0 18446744073709551615 _ c.in_err-image.ensures.refused a.tier in
+    let p = err_from_is_err_and c.from_residual.result c.from_residual.ensures.1 in
+    rw (p.1, p.2) (service_refused a.image.now a.flags.wrapped a.handle.schema a.handle.column a.tier _ reading)
 
 pub returns : goal.returns
-returns c = rw (← c.number_of-number.ensures.1) c.service_numbered.ensures
+returns c = rw (← c.number_of-number.ensures.1, ← c.in_ok-image.ensures.opened) c.service_numbered.ensures

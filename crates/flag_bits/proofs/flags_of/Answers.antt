@@ -1,13 +1,10 @@
 -- `flag_bits::flags_of` meets its contract. What is stored so far, before the bits of the rest, are the number's bits. Assumes nothing.
 use Prim.Native.Nat.{◌+◌, ◌-◌}
 use native.Mathlib.Omega.{arith}
-use mathlib.Core.Path.{refl, ◌∙◌}
+use mathlib.Core.Path.{◌∙◌}
 use lib.ListN.{length-set}
 use Rattle.flag_bits.specs.Bits.{flag_stored, all_stored}
 use Rattle.flag_bits.proofs.flags_of.Goals as goal
-
-pub loop-i-init : goal.loop-i-init
-loop-i-init c = (refl, omega arith, refl)
 
 pub loop-i-preserved : goal.loop-i-preserved
 loop-i-preserved c =

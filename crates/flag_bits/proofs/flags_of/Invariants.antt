@@ -7,6 +7,3 @@ use Rattle.flag_bits.proofs.flags_of.Given as goal
 
 abbrev pub invariant-loop-i : goal.invariant-loop-i
 invariant-loop-i l = (length l.wrapped ≡ 32) × (l.i ≤ 32) × (take l.i l.wrapped ++ bits (32 - l.i) l.rest ≡ bits 32 l.number)
-
-abbrev pub decreases-loop-i : goal.decreases-loop-i
-decreases-loop-i l = 32 - l.i

@@ -1,12 +1,8 @@
 -- `image::check_plan` meets its contract: 1 for the shape, 1 for a field that must be zero, then the layout. Assumes nothing.
 use mathlib.Core.Path.{◌≡◌, sym, ◌∙◌}
 use mathlib.Core.Bool.{true}
-use mathlib.Core.List.{List}
-use Prim.Native.Nat.{ℕ}
-use borrow.Author.Tests.{not-true, not-false}
 use Rattle.model.specs.Image.{shape}
 use Rattle.image.specs.Ways as ways
-use borrow.Author.Rules.{rules}
 use Rattle.image.proofs.check_plan.Goals as goal
 
 shaped : (c : goal.Else-not-shaped) → shape c.args.s.now ≡ true

@@ -5,13 +5,13 @@ use Rattle.rows.specs.Rows.{sizes}
 use Rattle.image.specs.Ways.{length-is}
 use Rattle.image.proofs.length_of.Goals as goal
 
-pub get_u32-n-requires : goal.get_u32-n-requires
-get_u32-n-requires c =
-    let z = sizes c.args.s.now c.requires in omega arith
+pub of-table-requires : goal.of-table-requires
+of-table-requires c =
+    let z = sizes c.args.s.now c.requires in z.there
 
 pub image_length-requires : goal.image_length-requires
 image_length-requires c =
-    let z = sizes c.args.s.now c.requires in (omega arith, omega arith)
+    let z = sizes c.args.s.now c.requires in omega (arith, z.count, c.of-table.ensures.1)
 
 pub returns : goal.returns
 unfolding row_count

@@ -1,12 +1,9 @@
-use borrow.Author.Rules.{rules}
-use Prim.Native.Nat.{ℕ, ◌-◌, ◌≤◌}
-use mathlib.Core.Path.{◌≡◌, refl, sym, ◌∙◌}
+use Prim.Native.Nat.{ℕ, ◌≤◌}
+use mathlib.Core.Path.{◌≡◌}
 use mathlib.Core.Bool.{Bool, ◌&&◌}
 use mathlib.Core.List.{List}
-use native.Mathlib.Omega.{arith}
 use Rattle.model.specs.Image.{sound_all}
 use Rattle.rows.specs.Rows.{rows_to}
-use Rattle.image.proofs.Laws.{Within, within, long_enough, sound_more, sound_end}
 use Rattle.image.proofs.slabs_sound.Given as goal
 
 -- the slabs before slab i and the slabs left
@@ -15,7 +12,4 @@ pub record Tested (s : List ℕ) (n : ℕ) (good : Bool) (i : ℕ) : Type 0 wher
   pub tested : (good && sound_all s (rows_to s n i)) ≡ sound_all s (rows_to s n 0)
 
 abbrev pub invariant-loop-i : goal.invariant-loop-i
-invariant-loop-i l = Tested l.s l.n l.good l.i
-
-abbrev pub decreases-loop-i : goal.decreases-loop-i
-decreases-loop-i l = l.n - l.i
+invariant-loop-i l = Tested l.table.bytes.now l.table.count l.good l.i

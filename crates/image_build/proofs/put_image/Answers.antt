@@ -11,50 +11,49 @@ use Rattle.rows.specs.Rows.{sizes, rows_to}
 use Rattle.layout.specs.Ends.{ends_ge}
 use Rattle.image.specs.Ways.{ends_are}
 use Rattle.image_build.specs.Made.{image_made}
-use borrow.Author.Rules.{rules}
 use Rattle.image_build.proofs.put_image.Goals as goal
 
 record Room (plan : List ℕ) (n room : ℕ) : Type 0 where
   few : n ≤ 32
-  in_plan : 32 + 64 * n ≤ length plan
   ends_low : slabs_end (32 + 64 * n) (rows_to plan n 0) ≤ 1099511627776
   ends_in : slabs_end (32 + 64 * n) (rows_to plan n 0) ≤ room
   rows_in : 32 + 64 * n ≤ room
 
--- what the plan's checks say of the image that it asks for
-room_for : (plan : List ℕ) (n room : ℕ) → shape plan ≡ true → n ≡ get 4 plan 12 → (image_length plan ≤ 1099511627776) × (image_length plan ≤ room) → Room plan n room
-room_for plan n room shaped n_is fits =
+-- what the plan's checks say of the image that it asks for, over the rows of its table, b
+room_for : (plan : List ℕ) (room : ℕ) {b : List ℕ} {n : ℕ} → shape plan ≡ true → (b ≡ plan) × (n ≡ get 4 plan 12)
+    → (image_length plan ≤ 1099511627776) × (image_length plan ≤ room) → Room b n room
+room_for plan room {b} {n} shaped is fits =
     let z = sizes plan shaped in
-    let e = ends_are plan n_is in
-    let g = ends_ge (32 + 64 * n) (rows_to plan n 0) in
+    let e = ends_are plan is.0 is.1 in
+    let g = ends_ge (32 + 64 * n) (rows_to b n 0) in
     record {
-      few = omega (arith, z, n_is);
-      in_plan = omega (arith, z, n_is);
+      few = omega (arith, z, is.1);
       ends_low = omega (arith, e, fits.0);
       ends_in = omega (arith, e, fits.1);
       rows_in = omega (arith, e, g, fits.1);
     }
 
-pub get_u32-n-requires : goal.get_u32-n-requires
-get_u32-n-requires c =
-    let z = sizes c.args.plan.now c.requires.plan_value in omega (arith, z)
+pub of-table-requires : goal.of-table-requires
+of-table-requires c =
+    let z = sizes c.args.plan.now c.requires.plan_value in z.there
 
 pub copy_head-requires : goal.copy_head-requires
 copy_head-requires c =
-    let room = room_for c.args.plan.now _ (length c.args.image.now) c.requires.plan_value c.get_u32-n.ensures.0 c.requires.plan_bound in
-    let r = room in (omega (arith, r.in_plan), omega (arith, r.rows_in))
+    let room = room_for c.args.plan.now (length c.args.image.now) c.requires.plan_value c.of-table.ensures c.requires.plan_bound in
+    let z = sizes c.args.plan.now c.requires.plan_value in
+    (omega (arith, z.long), omega (arith, room.rows_in))
 
 pub put_u64-requires : goal.put_u64-requires
 put_u64-requires c =
     let long-head : length c.copy_head.new.image ≡ length c.args.image.now = c.copy_head.auto.image in
-    let room = room_for c.args.plan.now _ (length c.args.image.now) c.requires.plan_value c.get_u32-n.ensures.0 c.requires.plan_bound in
+    let room = room_for c.args.plan.now (length c.args.image.now) c.requires.plan_value c.of-table.ensures c.requires.plan_bound in
     omega (arith, room.rows_in, long-head)
 
 pub put_u64-requires-2 : goal.put_u64-requires-2
 put_u64-requires-2 c =
     let long-head : length c.copy_head.new.image ≡ length c.args.image.now = c.copy_head.auto.image in
     let long-length : length c.put_u64.new.s ≡ length c.args.image.now = c.put_u64.auto.s ∙ long-head in
-    let room = room_for c.args.plan.now _ (length c.args.image.now) c.requires.plan_value c.get_u32-n.ensures.0 c.requires.plan_bound in
+    let room = room_for c.args.plan.now (length c.args.image.now) c.requires.plan_value c.of-table.ensures c.requires.plan_bound in
     omega (arith, room.rows_in, long-length)
 
 pub put_rows-requires : goal.put_rows-requires
@@ -62,9 +61,8 @@ put_rows-requires c =
     let long-head : length c.copy_head.new.image ≡ length c.args.image.now = c.copy_head.auto.image in
     let long-length : length c.put_u64.new.s ≡ length c.args.image.now = c.put_u64.auto.s ∙ long-head in
     let long_mark : length c.put_u64-2.new.s ≡ length c.args.image.now = c.put_u64-2.auto.s ∙ long-length in
-    let room = room_for c.args.plan.now _ (length c.args.image.now) c.requires.plan_value c.get_u32-n.ensures.0 c.requires.plan_bound in
-    let r = room in
-    record { n_bound = (r.few, r.in_plan); n_bound_2 = (r.ends_low, omega (arith, r.rows_in, long_mark)) }
+    let room = room_for c.args.plan.now (length c.args.image.now) c.requires.plan_value c.of-table.ensures c.requires.plan_bound in
+    record { few = room.few; ends_low = room.ends_low; rows_in = omega (arith, room.rows_in, long_mark) }
 
 pub put_slabs-requires : goal.put_slabs-requires
 put_slabs-requires c =
@@ -72,13 +70,12 @@ put_slabs-requires c =
     let long-length : length c.put_u64.new.s ≡ length c.args.image.now = c.put_u64.auto.s ∙ long-head in
     let long_mark : length c.put_u64-2.new.s ≡ length c.args.image.now = c.put_u64-2.auto.s ∙ long-length in
     let long-rows : length c.put_rows.new.image ≡ length c.args.image.now = c.put_rows.auto.image ∙ long_mark in
-    let room = room_for c.args.plan.now _ (length c.args.image.now) c.requires.plan_value c.get_u32-n.ensures.0 c.requires.plan_bound in
-    let r = room in
-    record { n_bound = (r.few, r.in_plan); n_bound_2 = (r.ends_low, omega (arith, r.ends_in, long-rows)) }
+    let room = room_for c.args.plan.now (length c.args.image.now) c.requires.plan_value c.of-table.ensures c.requires.plan_bound in
+    record { few = room.few; ends_low = room.ends_low; ends_in = omega (arith, room.ends_in, long-rows) }
 
 pub returns : goal.returns
 returns c =
     let z = sizes c.args.plan.now c.requires.plan_value in
     let l : c.length_of-len.result ≡ image_length c.args.plan.now = omega (arith, c.length_of-len.ensures, c.requires.plan_bound.0) in
-    image_made c.args.plan.now c.args.image.now z.long c.requires.plan_bound.1 c.get_u32-n.ensures.0 l c.copy_head.ensures c.put_u64.ensures
+    image_made c.args.plan.now c.args.image.now z.long c.requires.plan_bound.1 c.of-table.ensures.0 c.of-table.ensures.1 l c.copy_head.ensures c.put_u64.ensures
     c.put_u64-2.ensures c.put_rows.ensures c.put_slabs.ensures

@@ -1,6 +1,5 @@
 -- `image_build::put_low` meets its contract: the fields one behind the other are their bytes. Assumes nothing.
 use Rattle.image_build.specs.Made.{low-made}
-use borrow.Author.Rules.{rules}
 use Rattle.image_build.proofs.put_low.Goals as goal
 
 pub returns : goal.returns

@@ -1,6 +1,5 @@
 -- `image_build::put_row` meets its contract: the fields one behind the other are the row's bytes. Assumes nothing.
 use Rattle.image_build.specs.Made.{row_made}
-use borrow.Author.Rules.{rules}
 use Rattle.image_build.proofs.put_row.Goals as goal
 
 pub returns : goal.returns

@@ -1,16 +1,10 @@
-use borrow.Author.Rules.{rules}
-use Prim.Native.Nat.{ℕ, ◌+◌, ◌*◌, ◌-◌, ◌≤◌}
-use mathlib.Core.Path.{◌≡◌, refl, sym, ap, ◌∙◌}
-use native.Mathlib.Omega.{arith}
+use Prim.Native.Nat.{ℕ, ◌+◌, ◌*◌, ◌≤◌}
+use mathlib.Core.Path.{◌≡◌}
 use mathlib.Core.List.{List}
 use lib.ListN.{length}
-use Rattle.model.specs.declared.Row.{Row}
 use Rattle.model.specs.Bytes.{splice}
-use Rattle.model.specs.Image.{row_at, row_length, row_bytes, placed_row, placed_rows, all_rows, slabs_end}
+use Rattle.model.specs.Image.{placed_rows, all_rows, slabs_end}
 use Rattle.rows.specs.Rows.{rows_to}
-use Rattle.layout.specs.Ends.{ends_on, ends_more}
-use Rattle.laws.specs.Fresh.{length-row}
-use Rattle.image_build.specs.Made.{lent-long, lent-kept, rows_turn, rows_none}
 use Rattle.image_build.proofs.put_rows.Given as goal
 
 -- the rows put before row i and the rows left make all rows
@@ -21,7 +15,4 @@ pub record Put (plan : List ℕ) (n : ℕ) (image₀ image : List ℕ) (at i : �
   pub put : splice image (32 + 64 * i) (all_rows (placed_rows at (rows_to plan n i))) ≡ splice image₀ 32 (all_rows (placed_rows (32 + 64 * n) (rows_to plan n 0)))
 
 abbrev pub invariant-loop-i : goal.invariant-loop-i
-invariant-loop-i l = Put l.plan l.n l.initial.image l.image l.at l.i
-
-abbrev pub decreases-loop-i : goal.decreases-loop-i
-decreases-loop-i l = l.n - l.i
+invariant-loop-i l = Put l.plan.bytes.now l.plan.count l.initial.image l.image l.at l.i

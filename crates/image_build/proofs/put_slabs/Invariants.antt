@@ -1,17 +1,10 @@
-use borrow.Author.Rules.{rules}
-use Prim.Native.Nat.{ℕ, ◌+◌, ◌*◌, ◌-◌, ◌≤◌}
-use mathlib.Core.Path.{◌≡◌, refl, sym, ap, ◌∙◌}
-use native.Mathlib.Omega.{arith}
+use Prim.Native.Nat.{ℕ, ◌+◌, ◌*◌, ◌≤◌}
+use mathlib.Core.Path.{◌≡◌}
 use mathlib.Core.List.{List}
 use lib.ListN.{length}
-use Rattle.model.specs.declared.Row.{Row}
 use Rattle.model.specs.Bytes.{splice}
-use Rattle.model.specs.Layout.{slab_length}
-use Rattle.model.specs.Image.{row_at, row_length, fresh_slabs, slabs_end}
+use Rattle.model.specs.Image.{fresh_slabs, slabs_end}
 use Rattle.rows.specs.Rows.{rows_to}
-use Rattle.layout.specs.Ends.{ends_on}
-use Rattle.laws.specs.Fresh.{fresh_of, length-fresh_of}
-use Rattle.image_build.specs.Made.{lent-long, lent-kept, slabs_fit, slabs_turn, slabs_none}
 use Rattle.image_build.proofs.put_slabs.Given as goal
 
 -- the slabs filled before slab i and the slabs left make all slabs
@@ -22,7 +15,4 @@ pub record Filled (plan : List ℕ) (n : ℕ) (image₀ image : List ℕ) (at i 
   pub filled : splice image at (fresh_slabs (rows_to plan n i)) ≡ splice image₀ (32 + 64 * n) (fresh_slabs (rows_to plan n 0))
 
 abbrev pub invariant-loop-i : goal.invariant-loop-i
-invariant-loop-i l = Filled l.plan l.n l.initial.image l.image l.at l.i
-
-abbrev pub decreases-loop-i : goal.decreases-loop-i
-decreases-loop-i l = l.n - l.i
+invariant-loop-i l = Filled l.plan.bytes.now l.plan.count l.initial.image l.image l.at l.i

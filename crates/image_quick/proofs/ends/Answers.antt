@@ -2,7 +2,6 @@
 use mathlib.Core.Bool.{false≢true}
 use Rattle.laws.specs.Tests.{eq_is}
 use Rattle.image_quick.proofs.Laws.{ends_is}
-use Rattle.std.proofs.Common.{rules}
 use Rattle.image_quick.proofs.ends.Goals as goal
 
 pub returns-then-schemas-gt-SCHEMAS : goal.returns-then-schemas-gt-SCHEMAS

@@ -1,6 +1,5 @@
 -- `image_quick::follows` meets its contract: series and function by one word. Assumes nothing.
 use Rattle.image_quick.proofs.Laws.{followed_is}
-use Rattle.std.proofs.Common.{rules}
 use Rattle.image_quick.proofs.follows.Goals as goal
 
 pub returns-then-function-gt-FUNCTIONS : goal.returns-then-function-gt-FUNCTIONS

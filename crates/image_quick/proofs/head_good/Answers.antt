@@ -1,6 +1,6 @@
 -- `image_quick::head_good` meets its contract: the tests that were passed are the facts. Assumes nothing.
 use mathlib.Core.Bool.{false≢true}
-use Rattle.std.proofs.Common.{◌+◌, ◌*◌, ◌/◌, sym, ◌∙◌, arith, rules}
+use Rattle.std.proofs.Common.{◌+◌, ◌*◌, ◌/◌, sym, ◌∙◌, arith}
 use Rattle.laws.specs.Tests.{le_is}
 use Rattle.model.specs.Image.{row_count, total_length}
 use Rattle.image_quick.proofs.Laws.{or_zero}

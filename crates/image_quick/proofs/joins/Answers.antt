@@ -1,5 +1,5 @@
 -- `image_quick::joins` meets its contract: the next tier by its word, or the first row of the next schema. Assumes nothing.
-use Rattle.std.proofs.Common.{◌+◌, arith, rules}
+use Rattle.std.proofs.Common.{◌+◌, arith}
 use Rattle.image_quick.specs.Seen.{Begun, Followed, Joined, good-map}
 use Rattle.image_quick.proofs.Laws.{schema_low, tier-low, next_start, next-tier}
 use Rattle.image_quick.proofs.joins.Goals as goal

@@ -1,7 +1,6 @@
 -- `image_quick::next_tier` meets its contract: schema and tier by one word. Assumes nothing.
 use Rattle.image_quick.specs.Seen.{Followed, NextTier, good-map}
 use Rattle.image_quick.proofs.Laws.{next_only}
-use Rattle.std.proofs.Common.{rules}
 use Rattle.image_quick.proofs.next_tier.Goals as goal
 
 pub returns-then-x-i : goal.returns-then-x-i

@@ -1,7 +1,6 @@
 -- `image_quick::place_good` meets its contract: the tests that were passed are the facts. Assumes nothing.
 use mathlib.Core.Bool.{false≢true}
 use Rattle.image_quick.proofs.Laws.{here-is}
-use Rattle.std.proofs.Common.{rules}
 use Rattle.image_quick.proofs.place_good.Goals as goal
 
 pub returns-then-r-at : goal.returns-then-r-at

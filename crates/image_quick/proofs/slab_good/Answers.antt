@@ -1,9 +1,8 @@
 -- `image_quick::slab_good` meets its contract: the tests that were passed are the facts. Assumes nothing.
 use mathlib.Core.Bool.{false≢true}
-use Rattle.std.proofs.Common.{◌+◌, ◌*◌, ◌≤◌, mul-le-mul_right, arith, rules}
+use Rattle.std.proofs.Common.{◌+◌, ◌*◌, ◌≤◌, mul-le-mul_right, arith}
 use Rattle.model.specs.Layout.{stamps_at, stamps_behind, directory}
 use Rattle.image_quick.proofs.Laws.{slab-is}
-use Rattle.image_quick.specs.declared.Shared.{Shared}
 use Rattle.image_quick.proofs.slab_good.Goals as goal
 
 pub returns-then-named-ne-RNDO : goal.returns-then-named-ne-RNDO

@@ -1,5 +1,5 @@
 -- `image_quick::slots_good` meets its contract: the product cannot wrap, and the rest is below the interval. Assumes nothing.
-use Rattle.std.proofs.Common.{arith, rules}
+use Rattle.std.proofs.Common.{arith}
 use Rattle.laws.specs.Tests.{lt-is}
 use Rattle.image_quick.proofs.Laws.{slotted_is}
 use Rattle.image_quick.proofs.slots_good.Goals as goal

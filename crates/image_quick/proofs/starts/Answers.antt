@@ -1,5 +1,5 @@
 -- `image_quick::starts` meets its contract: the tests that were passed are the facts. Assumes nothing.
-use Rattle.std.proofs.Common.{refl, rules}
+use Rattle.std.proofs.Common.{refl}
 use Rattle.image_quick.proofs.Laws.{start_is, known_start}
 use Rattle.image_quick.proofs.starts.Goals as goal
 

@@ -1,9 +1,8 @@
 -- `image_quick::timed_good` meets its contract: the tests that were passed are the facts; the interval's upper half is the second word of the two that stand in the
 use mathlib.Core.Bool.{false≢true}
-use Rattle.std.proofs.Common.{◌≡◌, ◌+◌, ◌*◌, ◌^◌, ◌<◌, sym, ap, ◌∙◌, arith, rules}
+use Rattle.std.proofs.Common.{◌≡◌, ◌+◌, ◌*◌, ◌^◌, ◌<◌, sym, ap, ◌∙◌, arith}
 use Rattle.model.specs.Bytes.{get}
 use Rattle.image_quick.specs.Seen.{Low, get-two}
-use borrow.Author.Tests.{not-false}
 use Rattle.image_quick.proofs.timed_good.Goals as goal
 
 pub is_low-low-requires : goal.is_low-low-requires

@@ -1,5 +1,5 @@
 -- `image_quick::two_u32` meets its contract: eight bytes are two numbers side by side. Assumes nothing.
-use Rattle.std.proofs.Common.{◌∙◌, arith, rules}
+use Rattle.std.proofs.Common.{◌∙◌, arith}
 use Rattle.image_quick.specs.Seen.{get-two}
 use Rattle.image_quick.proofs.two_u32.Goals as goal
 

@@ -1,13 +1,9 @@
-use borrow.Author.Rules.{rules}
-use Prim.Native.Nat.{ℕ, ◌+◌, ◌*◌, ◌-◌, ◌≤◌}
-use mathlib.Core.Path.{◌≡◌, refl, sym, ap, ◌∙◌}
+use Prim.Native.Nat.{ℕ, ◌+◌, ◌*◌, ◌≤◌}
+use mathlib.Core.Path.{◌≡◌}
 use mathlib.Core.Bool.{Bool, ◌&&◌}
 use mathlib.Core.List.{List}
-use native.Mathlib.Omega.{arith}
-use Rattle.model.specs.Image.{row_at, row_length, slabs_end, placed}
+use Rattle.model.specs.Image.{slabs_end, placed}
 use Rattle.rows.specs.Rows.{rows_to}
-use Rattle.layout.specs.Ends.{ends_on, ends_more}
-use Rattle.layout.proofs.Laws.{placed_more, placed_end}
 use Rattle.layout.proofs.is_placed.Given as goal
 
 -- the rows before row i and the rows left
@@ -17,7 +13,4 @@ pub record Tested (s : List ℕ) (n : ℕ) (good : Bool) (at i : ℕ) : Type 0 w
   pub tested : (good && placed at (rows_to s n i)) ≡ placed (32 + 64 * n) (rows_to s n 0)
 
 abbrev pub invariant-loop-i : goal.invariant-loop-i
-invariant-loop-i l = Tested l.s l.n l.good l.at l.i
-
-abbrev pub decreases-loop-i : goal.decreases-loop-i
-decreases-loop-i l = l.n - l.i
+invariant-loop-i l = Tested l.table.bytes.now l.table.count l.good l.at l.i

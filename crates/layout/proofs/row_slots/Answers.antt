@@ -3,7 +3,6 @@ use mathlib.Core.Path.{refl}
 use Rattle.model.specs.Layout.{slot_count}
 use Rattle.model.specs.Image.{row_slots}
 use Rattle.layout.proofs.Laws.{slots_none}
-use borrow.Author.Rules.{rules}
 use Rattle.layout.proofs.row_slots.Goals as goal
 
 pub returns-then-interval-eq0 : goal.returns-then-interval-eq0

@@ -3,7 +3,6 @@ use Prim.Native.Nat.{◌+◌, ◌*◌, ◌≤◌}
 use native.Mathlib.Omega.{arith}
 use Rattle.model.specs.Layout.{stamps_at, stamps_behind, directory}
 use Rattle.layout.proofs.Laws.{lists, over, within}
-use borrow.Author.Rules.{rules}
 use Rattle.layout.proofs.slab_length.Goals as goal
 
 pub returns-then-n-lists : goal.returns-then-n-lists
@@ -13,12 +12,6 @@ returns-then-n-lists c =
 pub stamps_at-requires : goal.stamps_at-requires
 unfolding stamps_at stamps_behind directory
 stamps_at-requires c = omega arith
-
-pub overflow_mul-l : goal.overflow_mul-l
-overflow_mul-l c = omega (arith, (let it : let a = c.args in a.n * (a.m + 1) ≤ 137438953472 = let a = c.args in within a.n (a.m + 1) (omega arith) c.if-n-lists.false in it))
-
-pub overflow_mul-l-2 : goal.overflow_mul-l-2
-overflow_mul-l-2 c = omega (arith, (let it : let a = c.args in a.n * (a.m + 1) ≤ 137438953472 = let a = c.args in within a.n (a.m + 1) (omega arith) c.if-n-lists.false in it))
 
 pub overflow_add-l : goal.overflow_add-l
 unfolding stamps_at stamps_behind directory

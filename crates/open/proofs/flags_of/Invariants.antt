@@ -1,14 +1,11 @@
-use borrow.Author.Rules.{rules}
-use Prim.Native.Nat.{ℕ, ◌-◌, ◌≤◌, ◌<◌}
+use Prim.Native.Nat.{ℕ, ◌≤◌}
 use mathlib.Core.Bool.{Bool}
 use mathlib.Core.List.{List}
-use mathlib.Core.Path.{◌≡◌, refl, sym, ◌∙◌}
-use native.Mathlib.Omega.{arith}
-use lib.ListN.{length, length-set}
+use mathlib.Core.Path.{◌≡◌}
+use lib.ListN.{length}
 use lib.Seq.{sets}
 use Rattle.model.specs.Lent.{wrap_flags}
 use Rattle.rows.specs.Rows.{rows_to}
-use Rattle.open.specs.Left as left
 use Rattle.open.proofs.flags_of.Given as goal
 
 pub record Inv (s : List ℕ) (n : ℕ) (next₀ next : List Bool) (i : ℕ) : Type 0 where
@@ -17,7 +14,4 @@ pub record Inv (s : List ℕ) (n : ℕ) (next₀ next : List Bool) (i : ℕ) : T
   pub leads : sets next i (wrap_flags s (rows_to s n i)) ≡ sets next₀ 0 (wrap_flags s (rows_to s n 0))
 
 abbrev pub invariant-loop-i : goal.invariant-loop-i
-invariant-loop-i l = Inv l.s l.n l.initial.next l.next l.i
-
-abbrev pub decreases-loop-i : goal.decreases-loop-i
-decreases-loop-i l = l.n - l.i
+invariant-loop-i l = Inv l.table.bytes.now l.table.count l.initial.next l.next l.i

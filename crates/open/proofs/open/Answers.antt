@@ -1,11 +1,9 @@
 -- `open::open` meets its contract: a refusal changes nothing; else the flags are those of the slabs. Assumes nothing.
 use mathlib.Core.Path.{◌≡◌, sym, ◌∙◌}
 use Rattle.model.specs.Image.{open_check}
-use native.Mathlib.Omega.{arith}
 use Rattle.rows.specs.First.{accepted, not_accepted}
 use Rattle.image.specs.Lent.{lent}
 use Rattle.open.specs.Left as left
-use borrow.Author.Rules.{rules}
 use Rattle.open.proofs.open.Goals as goal
 
 pub returns-in_default : goal.returns-in_default
@@ -14,19 +12,18 @@ returns-in_default c =
     let e = c.check_image-checked.ensures in
     (e, left.refused_is (lent a.image.now a.flags) _ e (not_accepted c.in_default.is))
 
-pub get_u32-n-requires : goal.get_u32-n-requires
-get_u32-n-requires c =
-    let opened : open_check c.args.image.now ≡ 0 = sym c.check_image-checked.ensures ∙ accepted c.in-Accepted.is in
-    omega (arith, left.long c.args.image.now opened)
+pub of-table-requires : goal.of-table-requires
+of-table-requires c =
+    let opened : open_check c.args.image.now ≡ 0 = sym c.check_image-checked.ensures ∙ accepted c.in-Ok.is in
+    left.there c.args.image.now opened
 
 pub flags_of-next-requires : goal.flags_of-next-requires
 flags_of-next-requires c =
-    let opened : open_check c.args.image.now ≡ 0 = sym c.check_image-checked.ensures ∙ accepted c.in-Accepted.is in
-    (opened, c.get_u32-n.ensures.0)
+    let opened : open_check c.args.image.now ≡ 0 = sym c.check_image-checked.ensures ∙ accepted c.in-Ok.is in
+    let is = c.of-table.ensures in rw is.0 (opened, is.1)
 
 pub returns : goal.returns
 returns c =
-    let opened : open_check c.args.image.now ≡ 0 = sym c.check_image-checked.ensures ∙ accepted c.in-Accepted.is in
+    let opened : open_check c.args.image.now ≡ 0 = sym c.check_image-checked.ensures ∙ accepted c.in-Ok.is in
     let a = c.args in
-    let count = c.get_u32-n.ensures.0 in
-    (c.check_image-checked.ensures, left.accepted_is (lent a.image.now a.flags) opened count c.flags_of-next.ensures)
+    (c.check_image-checked.ensures, left.accepted_is (lent a.image.now a.flags) opened c.of-table.ensures c.flags_of-next.ensures)

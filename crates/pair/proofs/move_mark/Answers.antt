@@ -34,4 +34,4 @@ put_u64-requires c = omega (arith, c.requires)
 pub returns : goal.returns
 returns c =
     let a = c.args in
-    mark_moved a.image.now a.row a.stamp a.writes a.outcome c.in-Accepted.is c.if-writes-eq0.false c.put_u64.ensures
+    mark_moved a.image.now a.row a.stamp a.writes a.outcome c.in-Ok.is c.if-writes-eq0.false c.put_u64.ensures

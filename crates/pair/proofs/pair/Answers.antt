@@ -31,10 +31,10 @@ returns-in_default c =
     let a = c.args in
     (no_function a.image.now a.u a.row function c.in_default.is, omega arith)
 
-pub stamps_below-good-requires : goal.stamps_below-good-requires
+pub invariant_of-source : goal.invariant_of-source
 unfolding part
-stamps_below-good-requires c =
-    let d = c.slab_at-d.ensures in rw (slab-part d) (sized d.sound)
+invariant_of-source c =
+    let d = c.slab_at-d.ensures in record { sized = rw (slab-part d) (sized d.sound) }
 
 pub returns-then-not-good : goal.returns-then-not-good
 unfolding part

@@ -4,6 +4,7 @@ use native.Mathlib.Numerals.{add-one}
 use mathlib.Core.Path.{◌∙◌}
 use Rattle.model.specs.Bytes.{part}
 use Rattle.model.specs.Image.{row_place}
+use Rattle.ring.specs.Parts.{sized}
 use Rattle.pair.proofs.Rows.{row_inside, slab-part, stamps_part, pair-at}
 use borrow.Author.Rules.{rules}
 use Rattle.pair.proofs.pair_at.Goals as goal
@@ -13,11 +14,15 @@ unfolding row_place
 row_at-r-requires c =
     let a = c.args in row_inside a.image.now a.row c.requires.adjacent a.row (omega arith)
 
+pub invariant_of-source : goal.invariant_of-source
+unfolding part
+invariant_of-source c = let d = c.slab_at-d.ensures in record { sized = rw (slab-part d) (sized d.sound) }
+
 pub reading_of-reading-requires : goal.reading_of-reading-requires
 unfolding part
 reading_of-reading-requires c =
     let d = c.slab_at-d.ensures in
-    record { sound = rw (slab-part d) d.sound; long_nonzero = (c.slab_at-next.ensures.some_interval, stamps_part d ∙ c.requires.row_value) }
+    (c.slab_at-next.ensures.some_interval, stamps_part d ∙ c.requires.row_value)
 
 pub returns : goal.returns
 unfolding part

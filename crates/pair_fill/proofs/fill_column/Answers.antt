@@ -6,24 +6,11 @@ use Rattle.pair_fill.proofs.Kept.{column_filled}
 use borrow.Author.Rules.{rules}
 use Rattle.pair_fill.proofs.fill_column.Goals as goal
 
-pub slice_bounds-answer-start : goal.slice_bounds-answer-start
-slice_bounds-answer-start c = c.requires.lies.0.source_forth
-
-pub slice_bounds-answer-end : goal.slice_bounds-answer-end
-slice_bounds-answer-end c =
-    let l = c.requires.lies.0 in omega (arith, l.apart, l.dest_forth, l.inside)
-
 pub answer-x-requires : goal.answer-x-requires
 unfolding part
 answer-x-requires c =
     let p = c.requires in
     record { readable = p.lies.0.readable; asked = record { slot_in = p.lies.1.slot_in; few_left = p.lies.1.few_left; column_in = p.column_lt_series.0; starts = p.lies.1.starts } }
-
-pub slice_bounds-write_answer-start : goal.slice_bounds-write_answer-start
-slice_bounds-write_answer-start c = c.requires.lies.0.dest_forth
-
-pub slice_bounds-write_answer-end : goal.slice_bounds-write_answer-end
-slice_bounds-write_answer-end c = c.requires.lies.0.inside
 
 pub write_answer-requires : goal.write_answer-requires
 unfolding part

@@ -1,21 +1,15 @@
 -- `pair_fill::fill_window` meets its contract: the columns written, gone on with those that remain, are the window. Assumes nothing.
-use Prim.Native.Nat.{ℕ, ◌+◌, ◌-◌, ◌≤◌}
+use Prim.Native.Nat.{◌-◌}
 use native.Mathlib.Nat.{sub-zero}
 use native.Mathlib.Omega.{arith}
 use mathlib.Core.Path.{◌≡◌, ap, ◌∙◌}
-use mathlib.Core.List.{List}
-use Rattle.model.specs.declared.Outcome.TheVariants.{Accepted}
 use Rattle.model.specs.Words.{outcome_no}
 use Rattle.model.specs.Window.{Job, window_answer}
-use Rattle.model.specs.Consolidate.{Filled, write_answer, fill_window}
+use Rattle.model.specs.Consolidate.{write_answer}
 use Rattle.rows.specs.First.{not_accepted}
-use Rattle.window_write.specs.declared.Filling.{Filling}
-use Rattle.pair_fill.specs.declared.Pair.{Pair}
 use Rattle.pair_fill.specs.Parts.{Keeps, pair_job, filled_in}
-use Rattle.pair_fill.proofs.Kept.{keeps_same, keeps_then, job-kept, covers_kept}
+use Rattle.pair_fill.proofs.Kept.{keeps_same, keeps_then, job-kept}
 use Rattle.pair_fill.proofs.Laws.{column_turn, column_last, columns_done}
-use borrow.Author.Rules.{rules}
-use Rattle.pair_fill.proofs.fill_window.Invariants.{Written}
 use Rattle.pair_fill.proofs.fill_window.Goals as goal
 
 pub loop-column-init : goal.loop-column-init
@@ -28,11 +22,6 @@ loop-column-init c =
       few = omega arith;
       left = rw (sub-zero a.p.reading.series);
     }
-
-pub fill_column-done-requires : goal.fill_column-done-requires
-fill_column-done-requires c =
-    let a = c.args in
-    let i = c.loop-column.invariant in record { lies = (i.keeps.lies, covers_kept a.image.now c.loop-column.image a.p i.keeps c.requires.lies.1); column_lt_series = (search rules, omega (arith, i.few, c.requires.outcome_value.1)) }
 
 pub returns-in_default : goal.returns-in_default
 returns-in_default c =
@@ -62,7 +51,7 @@ loop-column-preserved c =
     record {
       column_in = omega arith;
       keeps = kept;
-      fine = c.in-Accepted.is;
+      fine = c.in-Ok.is;
       few = omega (arith, c.fill_column-done.ensures.keeps.1, c.loop-column.invariant.few);
       left = column_turn (pair_job a.image.now a.p) a.window (filled_in c.loop-column.image c.args.p c.loop-column.done) a.p.reading.series c.loop-column.column c.loop-column-test.true
           (ap outcome_no c.loop-column.invariant.fine) fills c.loop-column.invariant.left;

@@ -1,10 +1,8 @@
 -- `pair_runs::fill_pair` meets its contract: strand by strand, the windows of the rest of the range are left. Assumes nothing.
-use Prim.Native.Nat.{ℕ, ◌+◌, ◌*◌, ◌-◌, ◌≤◌, ◌<◌}
+use Prim.Native.Nat.{◌+◌, ◌*◌, ◌≤◌, ◌<◌}
 use native.Mathlib.Omega.{arith}
 use mathlib.Core.Path.{◌≡◌, refl, ◌∙◌}
 use mathlib.Core.Logic.{inl}
-use mathlib.Core.List.{List}
-use Rattle.model.specs.declared.Outcome.TheVariants.{Accepted}
 use Rattle.model.specs.Bytes.{part}
 use Rattle.model.specs.Consolidate.{Filled, fill, windows}
 use Rattle.rows.specs.First.{not_accepted}
@@ -12,47 +10,29 @@ use Rattle.strand_theory.specs.Cuts.{none}
 use Rattle.window_theory.specs.Cut.{onward}
 use Rattle.window_runs.specs.Strand.{Stranded}
 use Rattle.window_runs.specs.Rest.{empty_range}
-use Rattle.window_write.specs.declared.Filling.{Filling}
-use Rattle.pair_fill.specs.declared.Pair.{Pair}
 use Rattle.pair_fill.specs.Parts.{Keeps, WholeOrder, source_in, pair_job, filled_in}
 use Rattle.pair_fill.proofs.Kept.{keeps_same, keeps_then}
 use Rattle.pair_runs.specs.Parts.{all_filled, in_part}
 use Rattle.pair_runs.proofs.Laws.{first-whole}
 use Rattle.pair_runs.proofs.Writes.{writes_few}
 use Rattle.pair_runs.proofs.Strands.{Strands, passes, lies_part, keeps_part, end_low, gone_on, one_strand, part-rest, part_turn, part-last}
-use borrow.Author.Rules.{rules}
-use Rattle.pair_runs.proofs.fill_pair.Invariants.{Passing}
 use Rattle.pair_runs.proofs.fill_pair.Goals as goal
 
-pub slice_bounds-first_place-start : goal.slice_bounds-first_place-start
-slice_bounds-first_place-start c = c.requires.lies.source_forth
-
-pub slice_bounds-first_place-end : goal.slice_bounds-first_place-end
-slice_bounds-first_place-end c =
-    let k = c.requires.lies in omega (arith, k.apart, k.dest_forth, k.inside)
-
-pub first_place-first-requires : goal.first_place-first-requires
+pub source_of-source-requires : goal.source_of-source-requires
 unfolding part
-first_place-first-requires c = c.requires.lies.readable.sized
+source_of-source-requires c = c.requires.lies.readable
 
 pub loop-start-init : goal.loop-start-init
 loop-start-init c =
     let a = c.args in
     record { keeps = keeps_same a.image.now a.p c.requires.lies; fine = c.requires.outcome_value.0; left = refl; counted = inl none; few = omega arith }
 
-pub slice_bounds-next_strand-start : goal.slice_bounds-next_strand-start
-slice_bounds-next_strand-start c = c.loop-start.invariant.keeps.lies.source_forth
-
-pub slice_bounds-next_strand-end : goal.slice_bounds-next_strand-end
-slice_bounds-next_strand-end c =
-    let k = c.loop-start.invariant.keeps.lies in omega (arith, k.apart, k.dest_forth, k.inside)
-
 pub next_strand-k-requires : goal.next_strand-k-requires
 unfolding part
 next_strand-k-requires c =
     let whole : let a = c.args in WholeOrder (source_in a.image.now a.p) a.p.reading c.first_place-first.result =
     let a = c.args in
-    let f = c.first_place-first.ensures in
+    let f = rw (c.source_of-source.ensures.0, c.source_of-source.ensures.1) at c.first_place-first.ensures in
     first-whole (source_in a.image.now a.p) a.p.reading c.requires.lies.readable f.0 f.1 f.2 in
     record { readable = c.loop-start.invariant.keeps.lies.readable; slot_lt_slots = (whole.slot_in, whole.few_left) }
 
@@ -63,7 +43,7 @@ fill_runs-done-requires c =
     c.next_strand-k.ensures in
     let whole : let a = c.args in WholeOrder (source_in a.image.now a.p) a.p.reading c.first_place-first.result =
     let a = c.args in
-    let f = c.first_place-first.ensures in
+    let f = rw (c.source_of-source.ensures.0, c.source_of-source.ensures.1) at c.first_place-first.ensures in
     first-whole (source_in a.image.now a.p) a.p.reading c.requires.lies.readable f.0 f.1 f.2 in
     let ends : c.next_strand-k.result.end ≤ c.args.p.reading.end =
     let a = c.args in
@@ -80,23 +60,6 @@ fill_runs-done-requires c =
       rest = part-rest a.image.now c.loop-start.image a.p c.loop-start.start c.requires.lies i.keeps whole stranded c.loop-start.done;
     })
 
-pub overflow_add-strands : goal.overflow_add-strands
-unfolding part
-overflow_add-strands c =
-    let whole : let a = c.args in WholeOrder (source_in a.image.now a.p) a.p.reading c.first_place-first.result =
-    let a = c.args in
-    let f = c.first_place-first.ensures in
-    first-whole (source_in a.image.now a.p) a.p.reading c.requires.lies.readable f.0 f.1 f.2 in
-    let stranded : let p = c.args.p in Stranded (onward (pair_job c.loop-start.image p) c.loop-start.start) p.reading.slots c.first_place-first.result c.next_strand-k.result =
-    c.next_strand-k.ensures in
-    let ends : c.next_strand-k.result.end ≤ c.args.p.reading.end =
-    let a = c.args in
-    end_low a.image.now c.loop-start.image a.p c.loop-start.start c.requires.lies c.loop-start.invariant.keeps whole stranded in
-    let goes : c.loop-start.start < c.next_strand-k.result.end =
-    let a = c.args in
-    gone_on a.image.now c.loop-start.image a.p c.loop-start.start c.requires.lies c.loop-start.invariant.keeps whole stranded c.loop-start-test.true in
-    omega (arith, c.loop-start.invariant.few, goes, ends, c.requires.lies.end_low)
-
 pub returns-in_default : goal.returns-in_default
 unfolding part
 returns-in_default c =
@@ -104,7 +67,7 @@ returns-in_default c =
     c.next_strand-k.ensures in
     let whole : let a = c.args in WholeOrder (source_in a.image.now a.p) a.p.reading c.first_place-first.result =
     let a = c.args in
-    let f = c.first_place-first.ensures in
+    let f = rw (c.source_of-source.ensures.0, c.source_of-source.ensures.1) at c.first_place-first.ensures in
     first-whole (source_in a.image.now a.p) a.p.reading c.requires.lies.readable f.0 f.1 f.2 in
     let counts : let a = c.args in Strands (pair_job a.image.now a.p) (c.loop-start.strands + 1) c.next_strand-k.result.end =
     let a = c.args in
@@ -134,7 +97,7 @@ unfolding part
 loop-start-smaller c =
     let whole : let a = c.args in WholeOrder (source_in a.image.now a.p) a.p.reading c.first_place-first.result =
     let a = c.args in
-    let f = c.first_place-first.ensures in
+    let f = rw (c.source_of-source.ensures.0, c.source_of-source.ensures.1) at c.first_place-first.ensures in
     first-whole (source_in a.image.now a.p) a.p.reading c.requires.lies.readable f.0 f.1 f.2 in
     let stranded : let p = c.args.p in Stranded (onward (pair_job c.loop-start.image p) c.loop-start.start) p.reading.slots c.first_place-first.result c.next_strand-k.result =
     c.next_strand-k.ensures in
@@ -157,7 +120,7 @@ loop-start-preserved c =
     all_filled a.image.now a.p a.filling in
     let whole : let a = c.args in WholeOrder (source_in a.image.now a.p) a.p.reading c.first_place-first.result =
     let a = c.args in
-    let f = c.first_place-first.ensures in
+    let f = rw (c.source_of-source.ensures.0, c.source_of-source.ensures.1) at c.first_place-first.ensures in
     first-whole (source_in a.image.now a.p) a.p.reading c.requires.lies.readable f.0 f.1 f.2 in
     let stranded : let p = c.args.p in Stranded (onward (pair_job c.loop-start.image p) c.loop-start.start) p.reading.slots c.first_place-first.result c.next_strand-k.result =
     c.next_strand-k.ensures in
@@ -172,7 +135,7 @@ loop-start-preserved c =
     let counts : let a = c.args in Strands (pair_job a.image.now a.p) (c.loop-start.strands + 1) c.next_strand-k.result.end =
     let a = c.args in
     one_strand a.image.now c.loop-start.image a.p c.loop-start.start c.requires.lies c.loop-start.invariant.keeps whole stranded c.loop-start-test.true c.loop-start.invariant.counted in
-    record { keeps = kept; fine = c.in-Accepted.is; left = leaves; counted = counts; few = omega (arith, c.loop-start.invariant.few, goes) }
+    record { keeps = kept; fine = c.in-Ok.is; left = leaves; counted = counts; few = omega (arith, c.loop-start.invariant.few, goes) }
 
 pub returns : goal.returns
 returns c =

@@ -1,31 +1,22 @@
 -- `pair_runs::fill_runs` meets its contract: the runs written, gone on with the slots that are left, are all windows. Assumes nothing.
-use Prim.Native.Nat.{ℕ, ◌+◌, ◌*◌, ◌≤◌, ◌<◌}
+use Prim.Native.Nat.{ℕ, ◌<◌}
 use native.Mathlib.Nat.{mul-le-mul_left}
 use native.Mathlib.Omega.{arith}
 use mathlib.Core.Path.{◌≡◌, ap, ◌∙◌, subst}
 use mathlib.Core.List.{List}
-use Rattle.model.specs.declared.Outcome.TheVariants.{Accepted}
-use Rattle.model.specs.declared.Place.{Place}
 use Rattle.model.specs.Bytes.{part}
-use Rattle.model.specs.Ring.{walk}
 use Rattle.model.specs.Window.{Job}
 use Rattle.model.specs.Consolidate.{fill_window}
 use Rattle.rows.specs.First.{not_accepted}
 use Rattle.window.specs.Parts.{job_in}
 use Rattle.window_runs.specs.Parts.{Ran}
-use Rattle.window_runs.specs.Rest.{Rest}
-use Rattle.window_write.specs.declared.Filling.{Filling}
-use Rattle.pair_fill.specs.declared.Pair.{Pair}
 use Rattle.pair_fill.specs.Parts.{Keeps, source_in, pair_job, filled_in}
 use Rattle.pair_fill.proofs.Kept.{keeps_same, keeps_then, job-kept, covers_kept}
-use Rattle.pair_runs.specs.Parts.{all_filled}
 use Rattle.pair_runs.proofs.Laws.{run-covers, run_turn, run-last, runs_done, fewer_left}
-use borrow.Author.Rules.{rules}
-use Rattle.pair_runs.proofs.fill_runs.Invariants.{Running}
 use Rattle.pair_runs.proofs.fill_runs.Goals as goal
 
-pub loop-left-init : goal.loop-left-init
-loop-left-init c =
+pub loop-here-init : goal.loop-here-init
+loop-here-init c =
     let a = c.args in
     record {
       slot_in = c.requires.lies.1;
@@ -36,94 +27,76 @@ loop-left-init c =
       rest = c.requires.rest;
     }
 
-pub slice_bounds-next_run-start : goal.slice_bounds-next_run-start
-slice_bounds-next_run-start c = c.loop-left.invariant.keeps.lies.source_forth
-
-pub slice_bounds-next_run-end : goal.slice_bounds-next_run-end
-slice_bounds-next_run-end c =
-    let k = c.loop-left.invariant.keeps.lies in omega (arith, k.apart, k.dest_forth, k.inside)
-
 pub next_run-r-requires : goal.next_run-r-requires
 unfolding part
 next_run-r-requires c =
-    let i = c.loop-left.invariant in record { readable = i.keeps.lies.readable; slot_lt_slots = (i.slot_in, c.loop-left-test.true) }
+    let i = c.loop-here.invariant in record { readable = i.keeps.lies.readable; slot_lt_slots = (i.slot_in, c.loop-here-test.true) }
 
 pub fill_window-done-requires : goal.fill_window-done-requires
 unfolding part
 fill_window-done-requires c =
-    let some_left : 0 < c.loop-left.left = c.loop-left-test.true in
+    let some_left : 0 < c.loop-here.here.left = c.loop-here-test.true in
     let source : List ℕ =
     let a = c.args in
     source_in a.image.now a.p in
-    let ran : let q = c.args.p.reading in Ran (job_in source q) q.slots (record { slot = c.loop-left.slot; left = c.loop-left.left }) c.next_run-r.result =
+    let ran : let q = c.args.p.reading in Ran (job_in source q) q.slots c.loop-here.here c.next_run-r.result =
     let q = c.args.p.reading in
-    subst (λ (s : List ℕ). Ran (job_in s q) q.slots (record { slot = c.loop-left.slot; left = c.loop-left.left }) c.next_run-r.result) c.loop-left.invariant.keeps.source_is c.next_run-r.ensures in
+    subst (λ (s : List ℕ). Ran (job_in s q) q.slots c.loop-here.here c.next_run-r.result) c.loop-here.invariant.keeps.source_is c.next_run-r.ensures in
     let a = c.args in
-    let i = c.loop-left.invariant in
+    let i = c.loop-here.invariant in
     let covers = run-covers source a.p.reading c.requires.lies.0.readable some_left i.rest ran i.few_left in record {
-      lies = (i.keeps.lies, covers_kept a.image.now c.loop-left.image a.p i.keeps covers);
+      lies = (i.keeps.lies, covers_kept a.image.now c.loop-here.image a.p i.keeps covers);
       outcome_value =
-          (i.fine, omega (arith, i.few, c.requires.outcome_value.1, fewer_left a.p.reading.series 0 c.loop-left.left some_left));
+          (i.fine, omega (arith, i.few, c.requires.outcome_value.1, fewer_left a.p.reading.series 0 c.loop-here.here.left some_left));
     }
 
 pub returns-in_default : goal.returns-in_default
 unfolding part
 returns-in_default c =
     let fills : filled_in c.fill_window-done.new.image c.args.p c.fill_window-done.result ≡ fill_window (pair_job c.args.image.now c.args.p)
-    (filled_in c.loop-left.image c.args.p c.loop-left.done) c.next_run-r.result.window 0 c.args.p.reading.series =
-    let f = filled_in c.loop-left.image c.args.p c.loop-left.done in
-    c.fill_window-done.ensures.result_after ∙ ap (λ (q : Job). fill_window q f c.next_run-r.result.window 0 c.args.p.reading.series) (job-kept c.args.image.now c.loop-left.image c.args.p c.loop-left.invariant.keeps) in
+    (filled_in c.loop-here.image c.args.p c.loop-here.done) c.next_run-r.result.window 0 c.args.p.reading.series =
+    let f = filled_in c.loop-here.image c.args.p c.loop-here.done in
+    c.fill_window-done.ensures.result_after ∙ ap (λ (q : Job). fill_window q f c.next_run-r.result.window 0 c.args.p.reading.series) (job-kept c.args.image.now c.loop-here.image c.args.p c.loop-here.invariant.keeps) in
     let kept : Keeps c.args.image.now c.fill_window-done.new.image c.args.p =
-    keeps_then c.args.image.now c.loop-left.image c.fill_window-done.new.image c.args.p c.requires.lies.0 c.loop-left.invariant.keeps c.fill_window-done.ensures.keeps.0 in
-    let some_left : 0 < c.loop-left.left = c.loop-left-test.true in
+    keeps_then c.args.image.now c.loop-here.image c.fill_window-done.new.image c.args.p c.requires.lies.0 c.loop-here.invariant.keeps c.fill_window-done.ensures.keeps.0 in
+    let some_left : 0 < c.loop-here.here.left = c.loop-here-test.true in
     let source : List ℕ =
     let a = c.args in
     source_in a.image.now a.p in
-    let ran : let q = c.args.p.reading in Ran (job_in source q) q.slots (record { slot = c.loop-left.slot; left = c.loop-left.left }) c.next_run-r.result =
+    let ran : let q = c.args.p.reading in Ran (job_in source q) q.slots c.loop-here.here c.next_run-r.result =
     let q = c.args.p.reading in
-    subst (λ (s : List ℕ). Ran (job_in s q) q.slots (record { slot = c.loop-left.slot; left = c.loop-left.left }) c.next_run-r.result) c.loop-left.invariant.keeps.source_is c.next_run-r.ensures in
+    subst (λ (s : List ℕ). Ran (job_in s q) q.slots c.loop-here.here c.next_run-r.result) c.loop-here.invariant.keeps.source_is c.next_run-r.ensures in
     let a = c.args in
-    let i = c.loop-left.invariant in
+    let i = c.loop-here.invariant in
     let last = run-last source a.p.reading c.requires.lies.0.readable some_left i.rest ran fills
     (not_accepted c.in_default.is) in
-    record { result_after = last; keeps = (kept, omega (arith, c.fill_window-done.ensures.keeps.1, i.few, fewer_left a.p.reading.series 0 c.loop-left.left some_left)) }
+    record { result_after = last; keeps = (kept, omega (arith, c.fill_window-done.ensures.keeps.1, i.few, fewer_left a.p.reading.series 0 c.loop-here.here.left some_left)) }
 
-pub loop-left-smaller : goal.loop-left-smaller
+pub loop-here-preserved : goal.loop-here-preserved
 unfolding part
-loop-left-smaller c =
-    let source : List ℕ =
-    let a = c.args in
-    source_in a.image.now a.p in
-    let ran : let q = c.args.p.reading in Ran (job_in source q) q.slots (record { slot = c.loop-left.slot; left = c.loop-left.left }) c.next_run-r.result =
-    let q = c.args.p.reading in
-    subst (λ (s : List ℕ). Ran (job_in s q) q.slots (record { slot = c.loop-left.slot; left = c.loop-left.left }) c.next_run-r.result) c.loop-left.invariant.keeps.source_is c.next_run-r.ensures in
-    ran.fewer
-
-pub loop-left-preserved : goal.loop-left-preserved
-unfolding part
-loop-left-preserved c =
+loop-here-preserved c =
     let fills : filled_in c.fill_window-done.new.image c.args.p c.fill_window-done.result ≡ fill_window (pair_job c.args.image.now c.args.p)
-    (filled_in c.loop-left.image c.args.p c.loop-left.done) c.next_run-r.result.window 0 c.args.p.reading.series =
-    let f = filled_in c.loop-left.image c.args.p c.loop-left.done in
-    c.fill_window-done.ensures.result_after ∙ ap (λ (q : Job). fill_window q f c.next_run-r.result.window 0 c.args.p.reading.series) (job-kept c.args.image.now c.loop-left.image c.args.p c.loop-left.invariant.keeps) in
+    (filled_in c.loop-here.image c.args.p c.loop-here.done) c.next_run-r.result.window 0 c.args.p.reading.series =
+    let f = filled_in c.loop-here.image c.args.p c.loop-here.done in
+    c.fill_window-done.ensures.result_after ∙ ap (λ (q : Job). fill_window q f c.next_run-r.result.window 0 c.args.p.reading.series) (job-kept c.args.image.now c.loop-here.image c.args.p c.loop-here.invariant.keeps) in
     let kept : Keeps c.args.image.now c.fill_window-done.new.image c.args.p =
-    keeps_then c.args.image.now c.loop-left.image c.fill_window-done.new.image c.args.p c.requires.lies.0 c.loop-left.invariant.keeps c.fill_window-done.ensures.keeps.0 in
-    let some_left : 0 < c.loop-left.left = c.loop-left-test.true in
+    keeps_then c.args.image.now c.loop-here.image c.fill_window-done.new.image c.args.p c.requires.lies.0 c.loop-here.invariant.keeps c.fill_window-done.ensures.keeps.0 in
+    let some_left : 0 < c.loop-here.here.left = c.loop-here-test.true in
     let source : List ℕ =
     let a = c.args in
     source_in a.image.now a.p in
-    let ran : let q = c.args.p.reading in Ran (job_in source q) q.slots (record { slot = c.loop-left.slot; left = c.loop-left.left }) c.next_run-r.result =
+    let ran : let q = c.args.p.reading in Ran (job_in source q) q.slots c.loop-here.here c.next_run-r.result =
     let q = c.args.p.reading in
-    subst (λ (s : List ℕ). Ran (job_in s q) q.slots (record { slot = c.loop-left.slot; left = c.loop-left.left }) c.next_run-r.result) c.loop-left.invariant.keeps.source_is c.next_run-r.ensures in
+    subst (λ (s : List ℕ). Ran (job_in s q) q.slots c.loop-here.here c.next_run-r.result) c.loop-here.invariant.keeps.source_is c.next_run-r.ensures in
     let a = c.args in
-    let i = c.loop-left.invariant in
+    let i = c.loop-here.invariant in
     let k = ran in
     record {
       slot_in = k.rest_in;
       few_left = omega (arith, k.fewer, i.few_left);
       keeps = kept;
-      fine = c.in-Accepted.is;
-      few = omega (arith, c.fill_window-done.ensures.keeps.1, i.few, fewer_left a.p.reading.series c.next_run-r.result.rest.left c.loop-left.left k.fewer);
+      fine = c.in-Ok.is;
+      few = omega (arith, c.fill_window-done.ensures.keeps.1, i.few, fewer_left a.p.reading.series c.next_run-r.result.rest.left c.loop-here.here.left k.fewer);
       rest = run_turn source a.p.reading c.requires.lies.0.readable some_left i.rest k fills;
     }
 
@@ -132,4 +105,4 @@ returns c =
     let source : List ℕ =
     let a = c.args in
     source_in a.image.now a.p in
-    let i = c.loop-left.invariant in record { result_after = runs_done source c.args.p.reading c.requires.lies.0.readable c.loop-left.slot c.loop-left.left (omega arith) i.rest; keeps = (i.keeps, omega (arith, i.few)) }
+    let i = c.loop-here.invariant in record { result_after = runs_done source c.args.p.reading c.requires.lies.0.readable c.loop-here.here.slot c.loop-here.here.left (omega arith) i.rest; keeps = (i.keeps, omega (arith, i.few)) }

@@ -1,11 +1,7 @@
-use Prim.Native.Nat.{ℕ, ◌-◌, ◌≤◌, ◌<◌}
+use Prim.Native.Nat.{ℕ, ◌-◌, ◌≤◌}
 use mathlib.Core.Path.{◌≡◌}
-use native.Mathlib.Nat.{sub-zero}
-use native.Mathlib.Omega.{arith}
 use mathlib.Core.List.{List}
 use Rattle.model.specs.Consolidate.{stamps_below}
-use Rattle.pair_source.proofs.Laws.{stamp_high, stamp-low, stamps_done}
-use borrow.Author.Rules.{rules}
 use Rattle.pair_source.proofs.stamps_below.Given as goal
 
 pub record Inv (s : List ℕ) (n i : ℕ) : Type 0 where
@@ -13,7 +9,4 @@ pub record Inv (s : List ℕ) (n i : ℕ) : Type 0 where
   pub same : stamps_below s i (n - i) ≡ stamps_below s 0 n
 
 abbrev pub invariant-loop-i : goal.invariant-loop-i
-invariant-loop-i l = Inv l.slab l.n l.i
-
-abbrev pub decreases-loop-i : goal.decreases-loop-i
-decreases-loop-i l = l.n - l.i
+invariant-loop-i l = Inv l.slab.bytes.now l.slab.slots l.i

@@ -1,15 +1,13 @@
--- `query::query` meets its contract: opening's refusal, or what `query_opened` answers. Assumes nothing.
-use mathlib.Core.Path.{sym, ap, ◌∙◌}
-use Rattle.model.specs.Words.{outcome_no}
+-- `query::query` meets its contract: opening's refusal, or what `query_numbered` answers. Assumes nothing.
+use Rattle.std.proofs.lemmas.Result.{err_from_is_err_and}
 use Rattle.query.proofs.Laws.{not_opened}
-use borrow.Author.Rules.{rules}
 use Rattle.query.proofs.query.Goals as goal
 
-pub returns-in-Refused : goal.returns-in-Refused
-returns-in-Refused c =
+pub returns-in_err-image : goal.returns-in_err-image
+returns-in_err-image c =
     let a = c.args in
-    not_opened a.image.now a.flags.wrapped a.handle.schema a.handle.column a.start a.end
-    c.in-Refused.why (sym (ap outcome_no c.in-Refused.is) ∙ c.check_image-opened.ensures) a.tier
+    let p = err_from_is_err_and c.from_residual.result c.from_residual.ensures.1 in
+    rw (p.1, p.2) (not_opened a.image.now a.flags.wrapped a.handle.schema a.handle.column a.start a.end _ c.in_err-image.ensures.refused a.tier)
 
-pub query_opened-requires : goal.query_opened-requires
-query_opened-requires c = sym c.check_image-opened.ensures ∙ ap outcome_no c.in_default.is
+pub returns : goal.returns
+returns c = rw (← c.number_of-number.ensures.1, ← c.in_ok-image.ensures.opened) c.query_numbered.ensures

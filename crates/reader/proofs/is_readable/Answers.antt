@@ -1,14 +1,11 @@
 -- `reader::is_readable` meets its contract: without a sum or a product that wraps. Assumes nothing.
-use Prim.Native.Nat.{ℕ, ◌≤◌}
+use Prim.Native.Nat.{◌≤◌}
 use native.Mathlib.Omega.{arith}
 use mathlib.Core.Path.{◌≡◌}
-use mathlib.Core.List.{List}
 use lib.ListN.{length}
-use Rattle.model.specs.declared.Place.{Place}
 use Rattle.model.specs.Bytes.{get}
 use Rattle.model.specs.Layout.{stamps_at, stamps_behind, directory}
-use Rattle.reader.proofs.Laws.{cells_fit, unreadable, no_directory, no_room, no_column, no_slot, left_decides}
-use borrow.Author.Rules.{rules}
+use Rattle.reader.proofs.Laws.{unreadable, no_directory, no_room, no_column, no_slot, left_decides}
 use Rattle.reader.proofs.is_readable.Goals as goal
 
 pub returns-then-slab-lt-SLAB_HEADER : goal.returns-then-slab-lt-SLAB_HEADER
@@ -26,9 +23,6 @@ returns-then-slab-stamps c =
     let series_are : c.get_u32-m.result ≡ get 4 c.args.slab.now 20 = c.get_u32-m.ensures.0 in
     let header : 64 ≤ length c.args.slab.now = c.if-slab-lt-SLAB_HEADER.false in
     no_directory c.args.slab.now c.args.column c.args.place slots_are series_are stamps_are header c.if-slab-stamps.true
-
-pub overflow_mul-n : goal.overflow_mul-n
-overflow_mul-n c = omega (arith, cells_fit c.get_u32-n.result c.get_u32-m.result c.get_u32-n.ensures.1 c.get_u32-m.ensures.1)
 
 pub returns-then-slab-stamps-2 : goal.returns-then-slab-stamps-2
 returns-then-slab-stamps-2 c =

@@ -1,20 +1,14 @@
 -- `reader::step_from` meets its contract. The loop's invariant: a step from here on is the step from the place on. Assumes nothing.
-use Prim.Native.Nat.{ℕ, ◌≤◌, ◌<◌}
+use Prim.Native.Nat.{◌≤◌, ◌<◌}
 use native.Mathlib.Omega.{arith}
-use mathlib.Core.Path.{◌≡◌, refl, ap, ◌∙◌}
-use mathlib.Core.List.{List}
+use mathlib.Core.Path.{◌≡◌, ap, ◌∙◌}
 use Rattle.model.specs.declared.Stepped.{Stepped}
 use Rattle.model.specs.Bytes.{get}
 use Rattle.model.specs.Ring.{stamp, cell}
 use Rattle.model.specs.Read.{step_from, stepped}
 use Rattle.laws.specs.Slab.{stamp-is, cell-is}
 use Rattle.reader.proofs.Laws.{Turn, skip_early, skip_late, skip_nan, hand_out, finished}
-use borrow.Author.Rules.{rules}
-use Rattle.reader.proofs.step_from.Invariants.{Inv}
 use Rattle.reader.proofs.step_from.Goals as goal
-
-pub loop-left-init : goal.loop-left-init
-loop-left-init c = record { in_slots = search rules; same = refl }
 
 pub loop-left-preserved-then-stamp-start : goal.loop-left-preserved-then-stamp-start
 loop-left-preserved-then-stamp-start c =

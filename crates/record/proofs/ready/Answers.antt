@@ -1,13 +1,13 @@
 -- `record::ready` meets its contract: opening's refusal, or what `ready_opened` answers. Assumes nothing.
-use mathlib.Core.Path.{sym, ap, ◌∙◌}
-use Rattle.model.specs.Words.{outcome_no}
+use Rattle.std.proofs.lemmas.Result.{err_from_is_err_and}
 use Rattle.rows.specs.First.{refusal_no}
 use Rattle.record.specs.Ready.{unopened}
-use borrow.Author.Rules.{rules}
 use Rattle.record.proofs.ready.Goals as goal
 
-pub ready_opened-requires : goal.ready_opened-requires
-ready_opened-requires c = sym c.check_image-opened.ensures ∙ ap outcome_no c.in-Accepted.is
+pub returns-in_err-image : goal.returns-in_err-image
+returns-in_err-image c =
+    let p = err_from_is_err_and c.from_residual.result c.from_residual.ensures.1 in
+    rw (p.1, p.2) (λ bs. unopened _ bs _ _ _ _ _ (refusal_no c.in_err-image.field-0.0) c.in_err-image.ensures.refused)
 
-pub returns-in-Refused : goal.returns-in-Refused
-returns-in-Refused c = λ bs. unopened _ bs _ _ _ _ _ (refusal_no c.in-Refused.r) (sym (ap outcome_no c.in-Refused.is) ∙ c.check_image-opened.ensures)
+pub returns : goal.returns
+returns c = rw (← c.in_ok-image.ensures.opened) c.ready_opened.ensures

@@ -8,12 +8,12 @@ use Rattle.ring.proofs.is_old.Goals as goal
 pub slot_of-slot-requires : goal.slot_of-slot-requires
 slot_of-slot-requires c = (c.requires.interval_nonzero, some_slots c.requires.sound)
 
-pub stamp_of-held-requires : goal.stamp_of-held-requires
-stamp_of-held-requires c = record { sized = sized c.requires.sound; slot_lt_n = c.slot_of-slot.ensures.1 }
+pub invariant_of-ring : goal.invariant_of-ring
+invariant_of-ring c = record { sized = sized c.requires.sound }
 
 pub returns : goal.returns
 unfolding is_old
 returns c =
     let slot = c.slot_of-slot in
     let e : slot_of c.args.slab.now c.args.stamp ≡ slot.result = slot_is c.requires.sound c.args.stamp ∙ sym slot.ensures.0 in
-    rw (e, ← c.stamp_of-held.ensures)
+    rw (e, ← c.stamp-held.ensures)

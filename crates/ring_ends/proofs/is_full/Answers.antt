@@ -14,8 +14,8 @@ returns-in_default-newest c = search rules
 
 pub returns-then-start-o : goal.returns-then-start-o
 unfolding full
-returns-then-start-o c = simp (c.in-At.is, c.in-At-newest.is, lt-leb _ _ c.if-start-o.true)
+returns-then-start-o c = simp (c.in-Some.is, c.in-Some-newest.is, lt-leb _ _ c.if-start-o.true)
 
 pub returns : goal.returns
 unfolding full
-returns c = simp (c.in-At.is, c.in-At-newest.is, le-leb _ _ c.if-start-o.false)
+returns c = simp (c.in-Some.is, c.in-Some-newest.is, le-leb _ _ c.if-start-o.false)

@@ -13,4 +13,4 @@ returns-in_default-newest c = search rules
 
 pub returns : goal.returns
 unfolding incomplete
-returns c = simp (c.in-At.is, c.in-At-newest.is)
+returns c = simp (c.in-Some.is, c.in-Some-newest.is)

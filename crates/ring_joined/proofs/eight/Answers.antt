@@ -6,4 +6,4 @@ pub returns : goal.returns
 returns c =
     let a = c.args in
     let low = c.four-low in
-    eight_slots a.slab.now a.slot low.result c.four-high.result low.ensures c.four-high.ensures
+    eight_slots a.slab.now.bytes.now a.slot low.result c.four-high.result low.ensures c.four-high.ensures

@@ -5,4 +5,4 @@ use Rattle.ring_joined.proofs.four.Goals as goal
 pub returns : goal.returns
 returns c =
     let a = c.args in
-    four-slots a.slab.now a.slot c.stamp_of-t0.ensures c.stamp_of-t1.ensures c.stamp_of-t2.ensures c.stamp_of-t3.ensures
+    four-slots a.slab.now.bytes.now a.slot c.stamp-t0.ensures c.stamp-t1.ensures c.stamp-t2.ensures c.stamp-t3.ensures

@@ -16,8 +16,8 @@ use borrow.Author.Rules.{rules}
 use Rattle.ring_write.proofs.write_cells.Invariants.{rest}
 use Rattle.ring_write.proofs.write_cells.Goals as goal
 
-skipped : (c : goal.Then-s-schema) → (rest c.args.batch.now c.args.schema (length c.args.batch.now / 16) c.loop-i.i) ≡ (rest c.args.batch.now c.args.schema (length c.args.batch.now / 16) (c.loop-i.i + 1))
-skipped c = skip_entry _ _ _ _ c.loop-i-test.true (ne_eqb _ _ (λ z. c.if-s-schema.true (c.get_u32-s.ensures.0 ∙ z)))
+skipped : (c : goal.Then-entry-schema) → (rest c.args.batch.now c.args.schema (length c.args.batch.now / 16) c.loop-i.i) ≡ (rest c.args.batch.now c.args.schema (length c.args.batch.now / 16) (c.loop-i.i + 1))
+skipped c = skip_entry _ _ _ _ c.loop-i-test.true (ne_eqb _ _ (λ z. c.if-entry-schema.true (c.entry_at-entry.ensures.handle.0 ∙ z)))
 
 pub loop-i-init : goal.loop-i-init
 unfolding entries
@@ -25,15 +25,15 @@ loop-i-init c =
     let pre = c.requires in
     record { in_bounds = search rules; long = refl; sound = pre.sized; columns = rw (sub-zero _) pre.slot_lt_slots.1; leads = rw (sub-zero _) }
 
-pub loop-i-preserved-then-s-schema : goal.loop-i-preserved-then-s-schema
-loop-i-preserved-then-s-schema c =
+pub loop-i-preserved-then-entry-schema : goal.loop-i-preserved-then-entry-schema
+loop-i-preserved-then-entry-schema c =
     let i = c.loop-i.invariant in
     record { in_bounds = omega arith; long = i.long; sound = i.sound; columns = rw (skipped c) at i.columns; leads = rw (skipped c) at i.leads }
 
 pub write_cell-requires : goal.write_cell-requires
 write_cell-requires c =
     let i = c.loop-i.invariant in
-    record { sized = sized i.sound; slot_lt_slots = (search rules, omega (arith, (rw ((keep-entry _ _ _ _ c.loop-i-test.true (eq-eqb _ _ (sym c.get_u32-s.ensures.0 ∙ c.if-s-schema.false)))) at i.columns).0)) }
+    record { sized = sized i.sound; slot_lt_slots = (search rules, omega (arith, (rw ((keep-entry _ _ _ _ c.loop-i-test.true (eq-eqb _ _ (sym c.entry_at-entry.ensures.handle.0 ∙ c.if-entry-schema.false)))) at i.columns).0)) }
 
 pub loop-i-preserved : goal.loop-i-preserved
 loop-i-preserved c =
@@ -45,9 +45,9 @@ loop-i-preserved c =
       in_bounds = omega arith;
       long = search rules;
       sound = subst (Sound cell.new.slab _ _) l.invariant.sound.interval-is cell.ensures.1;
-      columns = (rw ((keep-entry _ _ _ _ c.loop-i-test.true (eq-eqb _ _ (sym c.get_u32-s.ensures.0 ∙ c.if-s-schema.false)))) at l.invariant.columns).1;
+      columns = (rw ((keep-entry _ _ _ _ c.loop-i-test.true (eq-eqb _ _ (sym c.entry_at-entry.ensures.handle.0 ∙ c.if-entry-schema.false)))) at l.invariant.columns).1;
       leads = cell_turn l.slab slot _ _ (rest c.args.batch.now c.args.schema (length c.args.batch.now / 16) (l.i + 1)) p
-          (rw ((keep-entry _ _ _ _ c.loop-i-test.true (eq-eqb _ _ (sym c.get_u32-s.ensures.0 ∙ c.if-s-schema.false)))) at l.invariant.leads);
+          (rw ((keep-entry _ _ _ _ c.loop-i-test.true (eq-eqb _ _ (sym c.entry_at-entry.ensures.handle.0 ∙ c.if-entry-schema.false)))) at l.invariant.leads);
     }
 
 pub returns : goal.returns

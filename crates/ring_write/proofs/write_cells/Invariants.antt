@@ -21,6 +21,3 @@ pub record Inv (slab₀ : List ℕ) (n m slot : ℕ) (batch : List ℕ) (schema 
 
 abbrev pub invariant-loop-i : goal.invariant-loop-i
 invariant-loop-i l = Inv l.initial.slab l.z.slots l.z.series l.slot l.batch l.schema l.count l.slab l.i
-
-abbrev pub decreases-loop-i : goal.decreases-loop-i
-decreases-loop-i l = l.count - l.i

@@ -11,8 +11,8 @@ use Rattle.ring_write.proofs.write_stamp.Goals as goal
 pub slot_of-slot-requires : goal.slot_of-slot-requires
 slot_of-slot-requires c = (c.requires.interval_nonzero, some_slots c.requires.sound)
 
-pub cursor_of-cursor-requires : goal.cursor_of-cursor-requires
-cursor_of-cursor-requires c = sized c.requires.sound
+pub invariant_of-before : goal.invariant_of-before
+invariant_of-before c = record { sized = sized c.requires.sound }
 
 pub returns : goal.returns
 returns c =

@@ -7,7 +7,6 @@ use Rattle.model.specs.Image.{plan_check, image_length}
 use Rattle.rows.specs.First.{refusal_no}
 use Rattle.image.specs.Ways.{plan-parts}
 use Rattle.rondo.proofs.Laws.{left_alone, set_anew}
-use borrow.Author.Rules.{rules}
 use Rattle.rondo.proofs.rondo_image_size.Goals as goal
 
 pub returns-in_default : goal.returns-in_default
@@ -17,12 +16,12 @@ returns-in_default c =
 
 pub length_of-requires : goal.length_of-requires
 length_of-requires c =
-    let passed : plan_check c.args.plan.now ≡ 0 = sym c.check_plan-checked.ensures ∙ ap outcome_no c.in-Accepted.is in
+    let passed : plan_check c.args.plan.now ≡ 0 = sym c.check_plan-checked.ensures ∙ ap outcome_no c.in-Ok.is in
     (plan-parts _ passed).0
 
 pub returns : goal.returns
 returns c =
-    let passed : plan_check c.args.plan.now ≡ 0 = sym c.check_plan-checked.ensures ∙ ap outcome_no c.in-Accepted.is in
+    let passed : plan_check c.args.plan.now ≡ 0 = sym c.check_plan-checked.ensures ∙ ap outcome_no c.in-Ok.is in
     let s = c.args.plan.now in
     let small : image_length s ≤ 1099511627776 = (plan-parts s passed).1 in
     let is : c.length_of.result ≡ image_length s = omega (arith, c.length_of.ensures) in

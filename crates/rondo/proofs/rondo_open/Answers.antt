@@ -2,7 +2,6 @@
 use mathlib.Core.Path.{◌∙◌}
 use Rattle.model.specs.Lent.{opening}
 use Rattle.rondo.proofs.Laws.{crossed}
-use borrow.Author.Rules.{rules}
 use Rattle.rondo.proofs.rondo_open.Goals as goal
 
 pub returns : goal.returns

@@ -1,8 +1,6 @@
 -- `rondo::rondo_query` meets its contract: opening's refusal, or what `query::query_numbered` answers, as numbers. Assumes nothing.
-use mathlib.Core.Path.{sym, ◌∙◌}
 use Rattle.query.proofs.Laws.{unopened}
 use Rattle.rondo.proofs.Laws.{asked, not_found_lem}
-use borrow.Author.Rules.{rules}
 use Rattle.rondo.proofs.rondo_query.Goals as goal
 
 pub returns-then-opened-ne0 : goal.returns-then-opened-ne0
@@ -10,9 +8,6 @@ returns-then-opened-ne0 c =
     let n = c.check-opened in
     let w = not_found_lem _ _ (unopened _ _ _ _ _ _ _ _ c.if-opened-ne0.true n.ensures) in
     record { number = w.0; words = w.1 }
-
-pub query_numbered-reply-requires : goal.query_numbered-reply-requires
-query_numbered-reply-requires c = sym c.check-opened.ensures ∙ c.if-opened-ne0.false
 
 pub returns : goal.returns
 returns c =

@@ -1,8 +1,6 @@
 -- `rondo::rondo_query_auto` meets its contract: opening's refusal, or what `query::auto_numbered` answers, as numbers. Assumes nothing.
-use mathlib.Core.Path.{sym, ◌∙◌}
 use Rattle.query.proofs.Laws.{auto_unopened}
 use Rattle.rondo.proofs.Laws.{asked, not_found_lem}
-use borrow.Author.Rules.{rules}
 use Rattle.rondo.proofs.rondo_query_auto.Goals as goal
 
 pub returns-then-opened-ne0 : goal.returns-then-opened-ne0
@@ -10,9 +8,6 @@ returns-then-opened-ne0 c =
     let n = c.check-opened in
     let w = not_found_lem _ _ (auto_unopened _ _ _ _ _ _ _ c.if-opened-ne0.true n.ensures) in
     record { number = w.0; words = w.1 }
-
-pub auto_numbered-reply-requires : goal.auto_numbered-reply-requires
-auto_numbered-reply-requires c = sym c.check-opened.ensures ∙ c.if-opened-ne0.false
 
 pub returns : goal.returns
 returns c =

@@ -3,7 +3,6 @@ use Prim.Native.Nat.{◌/◌}
 use mathlib.Core.Path.{◌≡◌, ap}
 use lib.ListN.{length}
 use Rattle.rondo.specs.Edge.{fetch_at, place_words}
-use borrow.Author.Rules.{rules}
 use Rattle.rondo.proofs.rondo_read.Goals as goal
 
 pub returns : goal.returns

@@ -2,7 +2,6 @@
 use mathlib.Core.Path.{sym, ◌∙◌}
 use Rattle.record.specs.Ready.{unopened, refused_by}
 use Rattle.rondo.proofs.Laws.{record_call_lem}
-use borrow.Author.Rules.{rules}
 use Rattle.rondo.proofs.rondo_record.Goals as goal
 
 pub returns-then-opened-ne0 : goal.returns-then-opened-ne0

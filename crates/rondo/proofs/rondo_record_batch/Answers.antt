@@ -2,7 +2,6 @@
 use mathlib.Core.Path.{sym, ◌∙◌}
 use Rattle.batch.proofs.Laws.{not_opened}
 use Rattle.rondo.proofs.Laws.{batch_call_lem}
-use borrow.Author.Rules.{rules}
 use Rattle.rondo.proofs.rondo_record_batch.Goals as goal
 
 pub returns-then-opened-ne0 : goal.returns-then-opened-ne0

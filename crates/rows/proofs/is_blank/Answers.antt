@@ -8,13 +8,9 @@ pub get_u64-total-requires : goal.get_u64-total-requires
 get_u64-total-requires c =
     let h = sizes c.args.s.now c.requires in omega arith
 
-pub get_u32-n-requires : goal.get_u32-n-requires
-get_u32-n-requires c =
-    let h = sizes c.args.s.now c.requires in omega arith
-
-pub rows_blank-rows-requires : goal.rows_blank-rows-requires
-rows_blank-rows-requires c =
-    let h = sizes c.args.s.now c.requires in omega arith
+pub of-table-requires : goal.of-table-requires
+of-table-requires c =
+    let h = sizes c.args.s.now c.requires in h.there
 
 pub returns : goal.returns
 returns c =

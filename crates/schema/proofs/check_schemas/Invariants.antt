@@ -1,12 +1,8 @@
-use borrow.Author.Rules.{rules}
 use Prim.Native.Nat.{ℕ, ◌-◌, ◌≤◌}
-use native.Mathlib.Omega.{arith}
-use mathlib.Core.Path.{◌≡◌, sym, ◌∙◌}
+use mathlib.Core.Path.{◌≡◌}
 use mathlib.Core.List.{List}
 use Rattle.model.specs.Image.{tier_check, schema_checks}
 use Rattle.rows.specs.Rows.{rows_to}
-use Rattle.rows.specs.First.{accepted, not_accepted}
-use Rattle.schema.proofs.Laws as laws
 use Rattle.schema.proofs.check_schemas.Given as goal
 
 -- the schemas before schema j passed
@@ -15,7 +11,4 @@ pub record Passed (s : List ℕ) (n k j : ℕ) : Type 0 where
   pub passed : schema_checks tier_check j (k - j) (rows_to s n 0) ≡ schema_checks tier_check 0 k (rows_to s n 0)
 
 abbrev pub invariant-loop-j : goal.invariant-loop-j
-invariant-loop-j l = Passed l.s l.n l.k l.j
-
-abbrev pub decreases-loop-j : goal.decreases-loop-j
-decreases-loop-j l = l.k - l.j
+invariant-loop-j l = Passed l.table.bytes.now l.table.count l.k l.j

@@ -1,10 +1,7 @@
 -- `schema::checked_tier` meets its contract: 4 where the spans fail, 5 where the slots are too many, else the row. Assumes nothing.
-use mathlib.Core.Path.{◌≡◌, sym}
-use mathlib.Core.Bool.{true}
-use borrow.Author.Tests.{not-true, not-false}
+use mathlib.Core.Path.{sym}
 use native.Mathlib.Omega.{arith}
-use Rattle.model.specs.declared.Row.{Row}
-use Rattle.schema.proofs.Laws.{tier_4, tier_5, tier_0, spans}
+use Rattle.schema.proofs.Laws.{tier_4, tier_5, tier_0}
 use borrow.Author.Rules.{rules}
 use Rattle.schema.proofs.checked_tier.Goals as goal
 

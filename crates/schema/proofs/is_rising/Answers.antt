@@ -1,19 +1,8 @@
 -- `schema::is_rising` meets its contract: the test so far and the tiers left rise exactly when all do. Assumes nothing.
-use borrow.Author.Rules.{rules}
-use Prim.Native.Nat.{ℕ, ◌-◌, ◌≤◌}
 use native.Mathlib.Omega.{arith}
-use mathlib.Core.Path.{◌≡◌, refl, sym, ◌∙◌}
-use mathlib.Core.Bool.{Bool, ◌&&◌}
-use mathlib.Core.List.{List}
-use Rattle.model.specs.declared.Row.{Row}
-use Rattle.model.specs.Image.{tiers_of, rising}
-use Rattle.rows.specs.Rows.{rows_to}
+use mathlib.Core.Path.{sym, ◌∙◌}
 use Rattle.schema.proofs.Laws.{tiers_skip, rising-on, rising_end}
-use Rattle.schema.proofs.is_rising.Invariants.{Rises}
 use Rattle.schema.proofs.is_rising.Goals as goal
-
-pub loop-i-init : goal.loop-i-init
-loop-i-init c = record { in_rows = omega arith; rises = refl }
 
 pub loop-i-preserved-then-r-j : goal.loop-i-preserved-then-r-j
 loop-i-preserved-then-r-j c =
@@ -22,7 +11,7 @@ loop-i-preserved-then-r-j c =
     let t = c.loop-i-test.true in
     record {
       in_rows = omega (arith, t);
-      rises = rw (tiers_skip a.s.now a.n l.i a.j t c.row_at-r.ensures c.if-r-j.true) l.invariant.rises;
+      rises = rw (tiers_skip a.table.now.bytes.now a.table.now.count l.i a.j t c.row-r.ensures c.if-r-j.true) l.invariant.rises;
     }
 
 pub loop-i-preserved : goal.loop-i-preserved
@@ -32,11 +21,11 @@ loop-i-preserved c =
     let t = c.loop-i-test.true in
     record {
       in_rows = omega (arith, t);
-      rises = rising-on a.s.now a.n l.i a.j t c.row_at-r.ensures c.if-r-j.false l.good l.finer ∙ l.invariant.rises;
+      rises = rising-on a.table.now.bytes.now a.table.now.count l.i a.j t c.row-r.ensures c.if-r-j.false l.good l.finer ∙ l.invariant.rises;
     }
 
 pub returns : goal.returns
 returns c =
     let l = c.loop-i in
     let a = c.args in
-    sym (rising_end a.s.now a.n l.i a.j l.good l.finer c.loop-i-test.false) ∙ l.invariant.rises
+    sym (rising_end a.table.now.bytes.now a.table.now.count l.i a.j l.good l.finer c.loop-i-test.false) ∙ l.invariant.rises

@@ -1,13 +1,10 @@
-use borrow.Author.Rules.{rules}
-use Prim.Native.Nat.{ℕ, ◌-◌, ◌≤◌}
-use native.Mathlib.Omega.{arith}
-use mathlib.Core.Path.{◌≡◌, refl, sym, ◌∙◌}
+use Prim.Native.Nat.{ℕ, ◌≤◌}
+use mathlib.Core.Path.{◌≡◌}
 use mathlib.Core.Bool.{Bool, ◌&&◌}
 use mathlib.Core.List.{List}
 use Rattle.model.specs.declared.Row.{Row}
 use Rattle.model.specs.Image.{tiers_of, rising}
 use Rattle.rows.specs.Rows.{rows_to}
-use Rattle.schema.proofs.Laws.{tiers_skip, rising-on, rising_end}
 use Rattle.schema.proofs.is_rising.Given as goal
 
 -- the tiers before row i and the tiers left
@@ -16,7 +13,4 @@ pub record Rises (s : List ℕ) (n j from : ℕ) (finer₀ : Row) (good : Bool) 
   pub rises : (good && rising finer (tiers_of j (rows_to s n i))) ≡ rising finer₀ (tiers_of j (rows_to s n from))
 
 abbrev pub invariant-loop-i : goal.invariant-loop-i
-invariant-loop-i l = Rises l.s l.n l.j l.from l.initial.finer l.good l.finer l.i
-
-abbrev pub decreases-loop-i : goal.decreases-loop-i
-decreases-loop-i l = l.n - l.i
+invariant-loop-i l = Rises l.table.bytes.now l.table.count l.j l.from l.initial.finer l.good l.finer l.i

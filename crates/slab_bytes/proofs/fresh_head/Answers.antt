@@ -1,6 +1,5 @@
 -- `slab::fresh_head` meets its contract: the fields one behind the other are the header. Assumes nothing.
 use Rattle.slab_bytes.specs.Fresh.{head-made}
-use borrow.Author.Rules.{rules}
 use Rattle.slab_bytes.proofs.fresh_head.Goals as goal
 
 pub returns : goal.returns

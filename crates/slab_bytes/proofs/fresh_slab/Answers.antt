@@ -1,12 +1,10 @@
 -- `slab::fresh_slab` meets its contract: header, directory, stamps and cells one behind the other are the slab. Assumes nothing.
 use Prim.Native.Nat.{◌+◌, ◌*◌}
 use mathlib.Core.Path.{◌≡◌, ◌∙◌}
-use lib.ListN.{length}
 use native.Mathlib.Omega.{arith}
 use Rattle.model.specs.Layout.{stamps_at, stamps_behind, directory}
 use Rattle.layout.specs.Ends.{long}
 use Rattle.slab_bytes.specs.Fresh.{slab-made}
-use borrow.Author.Rules.{rules}
 use Rattle.slab_bytes.proofs.fresh_slab.Goals as goal
 
 stamps_is : (c : goal.After-stamps_at-stamps) → c.stamps_at-stamps.result ≡ 64 + 4 * c.args.m

@@ -1,6 +1,5 @@
 -- `slab::is_sound` meets its contract: each field is read at the offset that the definition names. Assumes nothing.
 use Rattle.model.specs.Image.{sound}
-use borrow.Author.Rules.{rules}
 use Rattle.slab_bytes.proofs.is_sound.Goals as goal
 
 pub returns : goal.returns

@@ -3,4 +3,4 @@ use Rattle.store.specs.Called.{record_called}
 use Rattle.store.proofs.record.Goals as goal
 
 pub returns : goal.returns
-returns c = record_called c.record-done.result.outcome c.record-done.ensures
+returns c = record_called c.record-done.result.answer c.record-done.ensures

@@ -3,4 +3,4 @@ use Rattle.store.specs.Called.{batch_called}
 use Rattle.store.proofs.record_batch.Goals as goal
 
 pub returns : goal.returns
-returns c = batch_called c.record_batch-done.result.outcome c.record_batch-done.ensures
+returns c = batch_called c.record_batch-done.result.answer c.record_batch-done.ensures

@@ -5,4 +5,4 @@ use Rattle.store_reads.proofs.query.Goals as goal
 pub returns : goal.returns
 returns c =
     let begin = c.start_query-begin.ensures in
-    rw c.part-slab.ensures (query-answers begin.0 begin.1)
+    rw (c.result_of.ensures.queried, c.result_of.ensures.reader) (query-answers begin.0 begin.1)

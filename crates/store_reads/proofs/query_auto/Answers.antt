@@ -5,4 +5,4 @@ use Rattle.store_reads.proofs.query_auto.Goals as goal
 pub returns : goal.returns
 returns c =
     let begin = c.start_auto-begin.ensures in
-    rw c.part-slab.ensures (auto_answers begin.0 begin.1)
+    rw (c.result_of.ensures.queried, c.result_of.ensures.reader) (auto_answers begin.0 begin.1)

@@ -8,4 +8,4 @@ returns-in_default c = simp c.in_default.is
 
 pub returns : goal.returns
 unfolding start_of
-returns c = simp c.in-Answer.is
+returns c = simp c.in-Ok.is

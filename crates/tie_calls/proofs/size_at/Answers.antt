@@ -1,18 +1,18 @@
 -- `tie_calls::size_at` meets its contract, by the call's kind. Assumes nothing.
 use native.Mathlib.Omega.{arith}
-use mathlib.Core.Path.{sym, ◌∙◌}
+use mathlib.Core.Path.{sym}
 use Rattle.tie_calls.specs.Encoded.{batch_size}
-use Rattle.tie_calls.proofs.Laws.{size_batch, size_other}
+use Rattle.tie_calls.proofs.Laws.{size_batch, size_other, not_batch}
 use borrow.Author.Rules.{rules}
 use Rattle.tie_calls.proofs.size_at.Goals as goal
 
-pub returns-then-kind-eq1 : goal.returns-then-kind-eq1
+pub returns-in-Batch : goal.returns-in-Batch
 unfolding batch_size
-returns-then-kind-eq1 c =
+returns-in-Batch c =
     let a = c.args in
-    omega (arith, c.get_u32-count.ensures.0, size_batch a.calls.now a.at (sym c.get_u32-kind.ensures.0 ∙ c.if-kind-eq1.true))
+    omega (arith, c.get_u32-count.ensures.0, size_batch a.calls.now a.at c.in-Batch.ensures)
 
-pub returns : goal.returns
-returns c =
+pub returns-in_default : goal.returns-in_default
+returns-in_default c =
     let a = c.args in
-    sym (size_other a.calls.now a.at (λ z. c.if-kind-eq1.false (c.get_u32-kind.ensures.0 ∙ z)))
+    sym (size_other a.calls.now a.at (not_batch _ c.kind_at.ensures c.in_default.not-Batch))

@@ -15,7 +15,7 @@ returns-in_default c =
 pub returns : goal.returns
 returns c =
     let a = c.args in
-    let from = c.least-from in
-    let same = answer_out a.image.now a.queried c.in-Answer.found c.in-Answer.is c.least-to.result from.result c.least-to.ensures from.ensures in
+    let from = c.min-from in
+    let same = answer_out a.image.now a.queried c.in-Ok.found c.in-Ok.is c.min-to.result from.result c.min-to.ensures from.ensures in
     let w = same_points a.out.now (ap (room_for a.out.now) same) (c.hand_out.ensures.count, c.hand_out.ensures.stored) in
     record { count = w.0; stored = w.1 }

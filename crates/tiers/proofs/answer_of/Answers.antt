@@ -1,6 +1,5 @@
 -- `tiers::answer_of` meets its contract: the mark is that of the ends. Assumes nothing.
 use mathlib.Core.Path.{refl}
-use borrow.Author.Rules.{rules}
 use Rattle.tiers.proofs.answer_of.Goals as goal
 
 pub returns : goal.returns

@@ -5,11 +5,7 @@ use Rattle.model.specs.Ring.{walk}
 use Rattle.model.specs.Window.{Job}
 use Rattle.window.specs.Parts.{job_in}
 use Rattle.window.proofs.Laws.{is-empty, is_nothing_lem, is_number}
-use borrow.Author.Rules.{rules}
 use Rattle.window.proofs.answer.Goals as goal
-
-pub gather_values-g-requires : goal.gather_values-g-requires
-gather_values-g-requires c = record { readable = c.requires.readable; asked = c.requires.asked }
 
 pub returns-then-seen-eq0 : goal.returns-then-seen-eq0
 returns-then-seen-eq0 c =

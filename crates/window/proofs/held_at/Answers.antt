@@ -3,35 +3,28 @@ use native.Mathlib.Omega.{arith}
 use Rattle.model.specs.Ring.{cell}
 use Rattle.window.specs.Parts.{job_in}
 use Rattle.laws.specs.Windows.{before_start, past_end, other_window, in_window, below_window, past_window, of_window}
-use borrow.Author.Rules.{rules}
 use Rattle.window.proofs.held_at.Goals as goal
 
-pub stamp_of-t-requires : goal.stamp_of-t-requires
-stamp_of-t-requires c = record { sized = c.requires.readable.sized; slot_lt_n = search rules }
-
 pub returns-then-t-q : goal.returns-then-t-q
-returns-then-t-q c = cc (before_start (let a = c.args in job_in a.slab.now a.q) c.args.window c.stamp_of-t.result (let a = c.args in cell a.slab.now a.column a.slot) c.if-t-q.true)
+returns-then-t-q c = cc (before_start (let a = c.args in job_in a.slab.now a.q) c.args.window c.stamp-t.result (let a = c.args in cell a.slab.now a.column a.slot) c.if-t-q.true)
 
 pub returns-then-t-q-2 : goal.returns-then-t-q-2
-returns-then-t-q-2 c = cc (past_end (let a = c.args in job_in a.slab.now a.q) c.args.window c.stamp_of-t.result (let a = c.args in cell a.slab.now a.column a.slot) (omega arith) (omega arith))
+returns-then-t-q-2 c = cc (past_end (let a = c.args in job_in a.slab.now a.q) c.args.window c.stamp-t.result (let a = c.args in cell a.slab.now a.column a.slot) (omega arith) (omega arith))
 
 pub returns-then-t-window : goal.returns-then-t-window
 returns-then-t-window c =
     let p = c.requires in
     let o = below_window (let a = c.args in job_in a.slab.now a.q).long p.readable.some_long p.slot_lt_slots.2 c.if-t-window.true in
-    cc (other_window (let a = c.args in job_in a.slab.now a.q) c.args.window c.stamp_of-t.result (let a = c.args in cell a.slab.now a.column a.slot) (omega arith) (omega arith) o)
+    cc (other_window (let a = c.args in job_in a.slab.now a.q) c.args.window c.stamp-t.result (let a = c.args in cell a.slab.now a.column a.slot) (omega arith) (omega arith) o)
 
 pub returns-then-t-window-2 : goal.returns-then-t-window-2
 returns-then-t-window-2 c =
     let p = c.requires in
-    let o = past_window (let a = c.args in job_in a.slab.now a.q).long p.readable.some_long {t = c.stamp_of-t.result} p.slot_lt_slots.2 (omega arith) (omega arith) in
-    cc (other_window (let a = c.args in job_in a.slab.now a.q) c.args.window c.stamp_of-t.result (let a = c.args in cell a.slab.now a.column a.slot) (omega arith) (omega arith) o)
-
-pub cell_of-v-requires : goal.cell_of-v-requires
-cell_of-v-requires c = record { sized = c.requires.readable.sized; slot_lt_n = search rules }
+    let o = past_window (let a = c.args in job_in a.slab.now a.q).long p.readable.some_long {t = c.stamp-t.result} p.slot_lt_slots.2 (omega arith) (omega arith) in
+    cc (other_window (let a = c.args in job_in a.slab.now a.q) c.args.window c.stamp-t.result (let a = c.args in cell a.slab.now a.column a.slot) (omega arith) (omega arith) o)
 
 pub returns : goal.returns
 returns c =
     let p = c.requires in
-    let i = of_window (let a = c.args in job_in a.slab.now a.q).long p.readable.some_long {t = c.stamp_of-t.result} p.slot_lt_slots.2 (omega arith) (omega arith) in
-    cc (in_window (let a = c.args in job_in a.slab.now a.q) c.args.window c.stamp_of-t.result (let a = c.args in cell a.slab.now a.column a.slot) (omega arith) (omega arith) i)
+    let i = of_window (let a = c.args in job_in a.slab.now a.q).long p.readable.some_long {t = c.stamp-t.result} p.slot_lt_slots.2 (omega arith) (omega arith) in
+    cc (in_window (let a = c.args in job_in a.slab.now a.q) c.args.window c.stamp-t.result (let a = c.args in cell a.slab.now a.column a.slot) (omega arith) (omega arith) i)

@@ -4,9 +4,6 @@ use native.Mathlib.Nat.{div-mul-le_self}
 use Rattle.model.specs.Window.{window_of}
 use Rattle.window.proofs.window_of.Goals as goal
 
-pub overflow_mul-result : goal.overflow_mul-result
-overflow_mul-result c = omega (arith, div-mul-le_self c.args.stamp c.args.long)
-
 pub returns : goal.returns
 unfolding window_of
 returns c = omega (arith, div-mul-le_self c.args.stamp c.args.long)

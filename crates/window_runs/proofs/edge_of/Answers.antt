@@ -1,21 +1,14 @@
 -- `window_runs::edge_of` meets its contract: what was met is the part of the slots behind; at the end these are all. Assumes nothing.
-use Prim.Native.Nat.{ℕ, ◌+◌, ◌-◌, ◌%◌, ◌≤◌}
+use Prim.Native.Nat.{ℕ, ◌+◌, ◌-◌, ◌%◌}
 use native.Mathlib.Omega.{arith}
 use mathlib.Core.Path.{sym, subst}
-use mathlib.Core.List.{List}
-use Rattle.model.specs.declared.Place.{Place}
 use Rattle.model.specs.Ring.{walk}
 use Rattle.model.specs.Window.{Job}
-use Rattle.window.specs.declared.Reading.{Reading}
 use Rattle.window.specs.Parts.{job_in}
 use Rattle.window_theory.specs.Cut.{onward}
-use Rattle.window_runs.specs.Strand.{Edged, Meets}
-use Rattle.window_runs.proofs.Laws.{place_at, early_met, late_met, lower_met, above_met, same_met, none_walk, met_more, met_all}
-use Rattle.window_runs.proofs.edge_of.Invariants.{Met}
+use Rattle.window_runs.specs.Strand.{Edged}
+use Rattle.window_runs.proofs.Laws.{early_met, late_met, lower_met, above_met, same_met, none_walk, met_more, met_all}
 use Rattle.window_runs.proofs.edge_of.Goals as goal
-
-pub overflow_add-behind : goal.overflow_add-behind
-overflow_add-behind c = omega (arith, c.requires.readable.sized.few_slots)
 
 pub loop-v-init : goal.loop-v-init
 loop-v-init c =
@@ -26,12 +19,6 @@ loop-v-init c =
       head_in = omega arith;
       edged = none_walk (onward (job_in a.slab.now a.q) a.start) a.q.slots (a.place.slot + a.place.left) (omega arith);
     }
-
-pub slot_at-slot-requires : goal.slot_at-slot-requires
-slot_at-slot-requires c = omega (arith, c.loop-v.invariant.v_in, c.requires.slot_lt_slots.0, c.requires.slot_lt_slots.1)
-
-pub stamp_of-t-requires : goal.stamp_of-t-requires
-stamp_of-t-requires c = record { sized = c.requires.readable.sized; slot_lt_n = c.slot_at-slot.ensures.1 }
 
 pub loop-v-preserved-then-t-start : goal.loop-v-preserved-then-t-start
 loop-v-preserved-then-t-start c =
@@ -46,7 +33,7 @@ loop-v-preserved-then-t-start c =
       v_in = omega (arith, l.invariant.v_in);
       head_in = l.invariant.head_in;
       edged = met_more job c.requires.readable.some_long a.q.slots
-          behind l.v (omega (arith, c.loop-v-test.true)) l.invariant.v_in k.ensures.0 k.ensures.1 c.stamp_of-t.ensures l.invariant.edged (early_met _ _ _ _ _ _ _ c.if-t-start.true);
+          behind l.v (omega (arith, c.loop-v-test.true)) l.invariant.v_in k.ensures.0 k.ensures.1 (rw c.source_of-source.ensures.0 at c.stamp-t.ensures) l.invariant.edged (early_met _ _ _ _ _ _ _ c.if-t-start.true);
     })
 
 pub loop-v-preserved-then-t-end : goal.loop-v-preserved-then-t-end
@@ -62,11 +49,8 @@ loop-v-preserved-then-t-end c =
       v_in = omega (arith, l.invariant.v_in);
       head_in = l.invariant.head_in;
       edged = met_more job c.requires.readable.some_long a.q.slots
-          behind l.v (omega (arith, c.loop-v-test.true)) l.invariant.v_in k.ensures.0 k.ensures.1 c.stamp_of-t.ensures l.invariant.edged (late_met _ _ _ _ _ _ _ c.if-t-end.true);
+          behind l.v (omega (arith, c.loop-v-test.true)) l.invariant.v_in k.ensures.0 k.ensures.1 (rw c.source_of-source.ensures.0 at c.stamp-t.ensures) l.invariant.edged (late_met _ _ _ _ _ _ _ c.if-t-end.true);
     })
-
-pub window_of-low-requires : goal.window_of-low-requires
-window_of-low-requires c = c.requires.readable.some_long
 
 pub loop-v-preserved-then-t-low : goal.loop-v-preserved-then-t-low
 loop-v-preserved-then-t-low c =
@@ -83,11 +67,8 @@ loop-v-preserved-then-t-low c =
       head_in =
           (omega (arith, l.invariant.v_in));
       edged = met_more job c.requires.readable.some_long a.q.slots behind l.v (omega (arith, c.loop-v-test.true)) l.invariant.v_in k.ensures.0 k.ensures.1
-          c.stamp_of-t.ensures l.invariant.edged (lower_met _ _ _ _ _ _ _ (omega arith) (omega arith) c.if-t-low.true c.window_of-low.ensures.0);
+          (rw c.source_of-source.ensures.0 at c.stamp-t.ensures) l.invariant.edged (lower_met _ _ _ _ _ _ _ (omega arith) (omega arith) c.if-t-low.true c.window_of-low.ensures.0);
     })
-
-pub window_of-end-requires : goal.window_of-end-requires
-window_of-end-requires c = c.requires.readable.some_long
 
 pub loop-v-preserved-then-q-t : goal.loop-v-preserved-then-q-t
 loop-v-preserved-then-q-t c =
@@ -104,7 +85,7 @@ loop-v-preserved-then-q-t c =
       head_in =
           l.invariant.head_in;
       edged = met_more job c.requires.readable.some_long a.q.slots behind l.v (omega (arith, c.loop-v-test.true)) l.invariant.v_in k.ensures.0 k.ensures.1
-          c.stamp_of-t.ensures l.invariant.edged (above_met _ _ _ _ _ _ _ (omega arith) (omega arith) (omega arith) c.if-q-t.true c.window_of-end.ensures.0);
+          (rw c.source_of-source.ensures.0 at c.stamp-t.ensures) l.invariant.edged (above_met _ _ _ _ _ _ _ (omega arith) (omega arith) (omega arith) c.if-q-t.true c.window_of-end.ensures.0);
     })
 
 pub loop-v-preserved : goal.loop-v-preserved
@@ -122,14 +103,8 @@ loop-v-preserved c =
       head_in =
           (omega (arith, l.invariant.v_in));
       edged = met_more job c.requires.readable.some_long a.q.slots behind l.v (omega (arith, c.loop-v-test.true)) l.invariant.v_in k.ensures.0 k.ensures.1
-          c.stamp_of-t.ensures l.invariant.edged (same_met _ _ _ _ _ _ _ (omega arith) (omega arith) (omega arith) c.if-q-t.false);
+          (rw c.source_of-source.ensures.0 at c.stamp-t.ensures) l.invariant.edged (same_met _ _ _ _ _ _ _ (omega arith) (omega arith) (omega arith) c.if-q-t.false);
     })
-
-pub slot_at-slot-requires-2 : goal.slot_at-slot-requires-2
-slot_at-slot-requires-2 c = omega (arith, c.loop-v.invariant.head_in, c.requires.slot_lt_slots.0, c.requires.slot_lt_slots.1)
-
-pub overflow_sub-first : goal.overflow_sub-first
-overflow_sub-first c = omega (arith, c.loop-v.invariant.head_in)
 
 pub returns : goal.returns
 returns c =

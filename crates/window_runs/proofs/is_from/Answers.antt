@@ -1,10 +1,8 @@
 -- `window_runs::is_from` meets its contract, one case a return. Assumes nothing.
 use mathlib.Core.Path.{sym, ◌∙◌}
-use borrow.Author.Tests.{not-true, not-false}
 use native.Mathlib.Omega.{arith}
 use Prim.Native.Nat.{◌+◌}
 use Rattle.window_runs.proofs.Laws.{not-inside, below_limit, from-limit}
-use borrow.Author.Rules.{rules}
 use Rattle.window_runs.proofs.is_from.Goals as goal
 
 pub returns-then-not-inside : goal.returns-then-not-inside

@@ -7,7 +7,6 @@ use Rattle.model.specs.Window.{window_of}
 use Rattle.window.specs.Parts.{job_in}
 use Rattle.window_runs.specs.Parts.{from}
 use Rattle.window_runs.proofs.Laws.{run-first}
-use borrow.Author.Rules.{rules}
 use Rattle.window_runs.proofs.next_run.Goals as goal
 
 pub returns : goal.returns
@@ -16,7 +15,7 @@ returns c =
     let k = c.skip-over.ensures in
     let job = job_in a.slab.now a.q in
     record {
-      window_is = c.window_of-w.ensures.0 ∙ ap (window_of a.q.long) c.stamp_of-t.ensures;
+      window_is = c.window_of-w.ensures.0 ∙ ap (window_of a.q.long) (rw c.source_of-source.ensures.0 at c.stamp-t.ensures);
       run_in = c.requires.slot_lt_slots.0;
       run_few = omega arith;
       rest_in = k.slot_in;

@@ -2,7 +2,6 @@
 use Rattle.window.specs.Parts.{job_in}
 use Rattle.window_theory.specs.Cut.{onward}
 use Rattle.window_runs.specs.Strand.{all_met}
-use borrow.Author.Rules.{rules}
 use Rattle.window_runs.proofs.next_strand.Goals as goal
 
 pub returns : goal.returns

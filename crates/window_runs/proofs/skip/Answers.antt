@@ -1,19 +1,17 @@
 -- `window_runs::skip` meets its contract: what is passed over, and what remains, are all there was; behind the last that was passed over in the range there is none.
-use Prim.Native.Nat.{ℕ, suc, ◌+◌, ◌-◌, ◌%◌, ◌≤◌, ◌<◌}
+use Prim.Native.Nat.{ℕ, suc, ◌+◌, ◌-◌, ◌%◌, ◌<◌}
 use native.Mathlib.Nat.{sub_self}
 use native.Mathlib.Omega.{arith}
 use mathlib.Core.Path.{◌≡◌, refl, sym, ap, ◌∙◌}
 use mathlib.Core.Bool.{Bool, false, cond}
 use mathlib.Core.List.{List}
-use Rattle.model.specs.Ring.{stamp, walk}
+use Rattle.model.specs.Ring.{stamp}
 use Rattle.model.specs.Window.{Job}
 use Rattle.window.specs.declared.Reading.{Reading}
 use Rattle.window.specs.Parts.{job_in}
 use Rattle.ring_theory.specs.Walk.{steps}
-use Rattle.window_runs.specs.Parts.{in_range, is_from, from, Parted}
+use Rattle.window_runs.specs.Parts.{in_range, is_from}
 use Rattle.window_runs.proofs.Laws.{not-inside, skip_none, skip_here, skip_turn, step_more, part-begin, last_more, part_more}
-use borrow.Author.Rules.{rules}
-use borrow.Author.Tests.{not-true, not-false}
 use Rattle.window_runs.proofs.skip.Invariants.{Over}
 use Rattle.window_runs.proofs.skip.Goals as goal
 
@@ -45,18 +43,12 @@ loop-left-init c =
       parted = part-begin (job_in a.slab.now a.q) a.q.slots a.place.slot a.place.left;
     }
 
-pub stamp_of-t-requires : goal.stamp_of-t-requires
-stamp_of-t-requires c = record { sized = c.requires.readable.sized; slot_lt_n = search rules }
-
-pub next_slot-slot-requires : goal.next_slot-slot-requires
-next_slot-slot-requires c = c.loop-left.invariant.slot_in
-
 pub loop-left-preserved-then-not-inside : goal.loop-left-preserved-then-not-inside
 loop-left-preserved-then-not-inside c =
     let l = c.loop-left in
     let out = sym c.in_range-inside.ensures ∙ c.if-not-inside.true in
     let a = c.args in
-    over_more a.slab.now a.q (a.window + a.width) a.place.slot a.place.left l.slot l.left l.last c.loop-left-test.true l.invariant c.stamp_of-t.ensures c.next_slot-slot.ensures
+    over_more a.slab.now a.q (a.window + a.width) a.place.slot a.place.left l.slot l.left l.last c.loop-left-test.true l.invariant (rw c.source_of-source.ensures.0 at c.stamp-t.ensures) c.next_slot-slot.ensures
     (ap (λ (x : Bool). cond x (l.left - 1) l.last) (sym out)) (not-inside _ _ _ _ out)
 
 pub returns-then-found : goal.returns-then-found
@@ -64,34 +56,33 @@ returns-then-found c =
     let job : Job = let a = c.args in job_in a.slab.now a.q in
     let a = c.args in
     let i = c.loop-left.invariant in
-    record {
+    let here : c.loop-left.left - 1 + 1 ≡ c.loop-left.left = omega arith in
+    rw here (record {
       slot_in = i.slot_in;
       fewer = i.fewer;
       last_few = i.last_few;
-      rest-is = skip_here job a.q.slots c.loop-left.slot c.loop-left.left (omega arith) c.stamp_of-t.ensures (a.window + a.width)
+      rest-is = skip_here job a.q.slots c.loop-left.slot c.loop-left.left (omega arith) (rw c.source_of-source.ensures.0 at c.stamp-t.ensures) (a.window + a.width)
           (sym c.if-found.true ∙ c.is_from-found.ensures) i.rest-is;
       parted = i.parted;
-    }
-
-pub next_slot-slot-requires-in-loop-left : goal.next_slot-slot-requires-in-loop-left
-next_slot-slot-requires-in-loop-left c = c.loop-left.invariant.slot_in
+    })
 
 pub loop-left-preserved : goal.loop-left-preserved
 loop-left-preserved c =
     let l = c.loop-left in
     let inside = sym c.in_range-inside.ensures ∙ c.if-not-inside.false in
     let a = c.args in
-    over_more a.slab.now a.q (a.window + a.width) a.place.slot a.place.left l.slot l.left l.last c.loop-left-test.true l.invariant c.stamp_of-t.ensures c.next_slot-slot-in-loop-left.ensures
+    over_more a.slab.now a.q (a.window + a.width) a.place.slot a.place.left l.slot l.left l.last c.loop-left-test.true l.invariant (rw c.source_of-source.ensures.0 at c.stamp-t.ensures) c.next_slot-slot-in-loop-left.ensures
     (ap (λ (x : Bool). cond x (l.left - 1) l.last) (sym inside)) (sym c.if-found.false ∙ c.is_from-found.ensures)
 
 pub returns : goal.returns
 returns c =
     let job : Job = let a = c.args in job_in a.slab.now a.q in
     let i = c.loop-left.invariant in
+    let none : c.loop-left.left ≡ 0 = omega arith in
     record {
       slot_in = i.slot_in;
-      fewer = i.fewer;
+      fewer = omega arith;
       last_few = i.last_few;
-      rest-is = skip_none job c.args.q.slots c.loop-left.slot c.loop-left.left (omega arith) (c.args.window + c.args.width) i.rest-is;
-      parted = i.parted;
+      rest-is = rw none at (skip_none job c.args.q.slots c.loop-left.slot c.loop-left.left none (c.args.window + c.args.width) i.rest-is);
+      parted = rw none at i.parted;
     }

@@ -1,18 +1,11 @@
-use Prim.Native.Nat.{ℕ, suc, ◌+◌, ◌-◌, ◌%◌, ◌≤◌, ◌<◌}
-use native.Mathlib.Nat.{sub_self}
-use native.Mathlib.Omega.{arith}
-use mathlib.Core.Path.{◌≡◌, refl, sym, ap, ◌∙◌}
-use mathlib.Core.Bool.{Bool, false, cond}
+use Prim.Native.Nat.{ℕ, ◌+◌, ◌-◌, ◌≤◌, ◌<◌}
+use mathlib.Core.Path.{◌≡◌}
 use mathlib.Core.List.{List}
 use Rattle.model.specs.Ring.{walk}
-use Rattle.model.specs.Window.{Job}
 use Rattle.window.specs.declared.Reading.{Reading}
 use Rattle.window.specs.Parts.{job_in}
 use Rattle.ring_theory.specs.Walk.{steps}
-use Rattle.window_runs.specs.Parts.{in_range, is_from, from, Parted}
-use Rattle.window_runs.proofs.Laws.{not-inside, skip_none, skip_here, skip_turn, step_more, part-begin, last_more, part_more}
-use borrow.Author.Rules.{rules}
-use borrow.Author.Tests.{not-true, not-false}
+use Rattle.window_runs.specs.Parts.{from, Parted}
 use Rattle.window_runs.proofs.skip.Given as goal
 
 -- the slots from slot₀ on, left₀ of them, with those before `slot` passed over
@@ -26,6 +19,3 @@ pub record Over (s : List ℕ) (q : Reading) (limit slot₀ left₀ slot left la
 
 abbrev pub invariant-loop-left : goal.invariant-loop-left
 invariant-loop-left l = Over l.slab l.q (l.window + l.width) l.initial.slot l.initial.left l.slot l.left l.last
-
-abbrev pub decreases-loop-left : goal.decreases-loop-left
-decreases-loop-left l = l.left

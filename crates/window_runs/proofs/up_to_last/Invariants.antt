@@ -1,16 +1,7 @@
-use Prim.Native.Nat.{◌-◌}
-use native.Mathlib.Omega.{arith}
-use mathlib.Core.Path.{sym, ◌∙◌}
 use Rattle.window.specs.Parts.{job_in}
-use Rattle.model.specs.Window.{Job}
 use Rattle.window_theory.specs.Cut.{onward}
 use Rattle.window_runs.specs.Strand.{Trimmed}
-use Rattle.window_runs.proofs.Laws.{none_trimmed, trim_more}
-use borrow.Author.Rules.{rules}
 use Rattle.window_runs.proofs.up_to_last.Given as goal
 
 abbrev pub invariant-loop-left : goal.invariant-loop-left
 invariant-loop-left l = Trimmed (onward (job_in l.slab l.q) l.start) l.q.slots l.place (record { slot = l.place.slot; left = l.left })
-
-abbrev pub decreases-loop-left : goal.decreases-loop-left
-decreases-loop-left l = l.left

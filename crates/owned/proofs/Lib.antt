@@ -1,0 +1,4 @@
+mod Asking
+mod Fewer
+mod Laid
+mod Parts

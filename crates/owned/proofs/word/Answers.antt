@@ -1,0 +1,13 @@
+-- `owned::word` meets its contract: the library's number of those bytes is the field. Assumes nothing.
+use Rattle.std.proofs.Common.{ap, ◌∙◌}
+use Rattle.model.specs.Bytes.{le, get}
+use Rattle.field.proofs.Laws.{from_8}
+use Rattle.owned.proofs.Parts.{first_of_rest}
+use Rattle.owned.proofs.word.Goals as goal
+
+pub returns : goal.returns
+unfolding get
+returns c =
+    let rest = c.in_ok-get.ensures.lookup.0 in
+    let is = first_of_rest 8 c.args.at _ _ _ rest.2 rest.3 c.in_ok-word.ensures.cases in
+    (is.0, c.from_le_bytes.ensures ∙ from_8 _ is.2 ∙ ap le is.1)
