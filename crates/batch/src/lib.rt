@@ -95,7 +95,7 @@ pub fn batch_opened(
     }
 }
 
-// Records a batch, with the flags as a number. Checks by number: a `lookup::Image` would lend the image that is written.
+// Records a batch, with the flags as a number. The check alone: a `lookup::Image` would lend the image that is written.
 fn record_numbered(
     image: &mut [u8],
     flags: u32,

@@ -56,7 +56,7 @@ fn answer_of(outcome: Result<(), model::Refusal>, count: u64) -> Result<u64, mod
     }
 }
 
-// Consolidates every pair. Checks by number: a `lookup::Image` would lend the image that is written.
+// Consolidates every pair. The check alone: a `lookup::Image` would lend the image that is written.
 pub fn consolidate(
     image: &mut [u8],
     flags: model::Flags,

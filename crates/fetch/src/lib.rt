@@ -64,10 +64,7 @@ pub fn fetch(
     ensures stored { points.new ≡ sets points.old 0 (words (fetch_up_to (length points.old / 2) slab.now column start end place).points) }
 {
     if points.len() < 2 {
-        return Fetched {
-            count: 0,
-            place: place,
-        };
+        return Fetched { count: 0, place };
     }
     let reads = reader::is_readable(slab, column, place);
     if reads {

@@ -1,5 +1,5 @@
 // Little-endian fields of a lent slice, each an equation with the definition (`get`, `put`), the two tests of a value's 64-bit pattern by a shift and masks, and the test of a stamp.
-// A 32-bit field is handed out and taken as u64, with its bound, so that callers compute with it without a cast.
+// A 32-bit field is handed out and taken as u64, with its bound, so that callers compute with it without a cast: so the gets and puts of both widths stand beside one another.
 // In a static library each get is then one load and each put one store: `mov (%rdx,%rax,1),%rax` for `get_u64`, `mov %ecx,(%rdx,%rax,1)` for `put_u32`;
 // no copy and no test of the index is left.
 #![tactic(auto)]

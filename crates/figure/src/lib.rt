@@ -84,7 +84,7 @@ fn service_at(
     })
 }
 
-// The service figure, once opening's check has passed, with the flags as a number, of which one is read.
+// The service figure, once opening's check has passed, with the flags as a number, of which one is read. Beside `panel_numbered`: a closure for what is made of the row would be no shorter.
 pub fn service_numbered(
     image: &lookup::Image,
     flags: u32,

@@ -60,7 +60,7 @@ number_fits (b ∷ bs) zero h = elim h [ ]
 number_fits [] k h = one-le-pow k 2 (omega arith)
 number_fits (b ∷ bs) (suc k) h = omega (arith, pow-suc 2 k, number_fits bs k (omega arith), bit_small b)
 
--- ---- a turn of a loop over the flags
+-- ---- a turn of a loop over the flags, from the first and from the last
 
 -- the flag of slot i stored, the rest halved
 pub flag_stored : (w : List Bool) (i k j x : ℕ) → i < length w → j ≡ suc k → take (i + 1) (set w i (eqb (x % 2) 1)) ++ bits k (x / 2) ≡ take i w ++ bits j x

@@ -21,7 +21,7 @@ pub fn flags_of(number: u32) -> model::Flags
 fn bit_of(flag: bool) -> u32
     ensures { (result ≡ bit_of flag) × (result ≤ 1) }
 {
-    if flag { 1 } else { 0 }
+    u32::from(flag)
 }
 
 // The number of these flags, built from the last to the first: `flags_of` gives them back.

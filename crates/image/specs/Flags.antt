@@ -1,4 +1,4 @@
--- The first flags, stored one by one. Assumes nothing.
+-- The first flags stored: all at once, and one by one. Assumes nothing.
 use Rattle.std.specs.Prelude.{ℕ, suc, ◌+◌, ◌-◌, ◌≤◌, ◌<◌, ◌≡◌, Bool, false, List, ◌++◌, length, drop, set, replicate}
 use Rattle.std.proofs.Common.{zero-add, add-one, arith, ◌∙◌}
 use Rattle.std.proofs.lemmas.List.{length-replicate}

@@ -39,10 +39,10 @@ pub record Known (s : List ℕ) (i : ℕ) (p : Shared) : Type 0 where
   pub series-low : p.series < 4_294_967_296
   pub function_low : (row_at s i).function ≤ 6
 
--- what a step that is good promises
+-- what is promised where there is a value
 abbrev pub IfGood : (Shared → Type 0) → Option Shared → Type 0
 IfGood P (Some q) = P q
-IfGood P (None) = Unit {0}
+IfGood P None = Unit {0}
 
 pub good-is : (P : Shared → Type 0) {x : Option Shared} {q : Shared} → x ≡ Some q → IfGood P x → P q
 good-is P e h = rw e at h

@@ -97,7 +97,7 @@ fn starts(s: &[u8], i: usize, k: u64) -> Option<Shared>
     let p = Shared {
         series: m,
         high: 0x1_0000_0000 * m,
-        hash: hash,
+        hash,
     };
     Some(p)
 }

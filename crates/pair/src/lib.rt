@@ -44,9 +44,9 @@ fn pair_at(
     };
     let reading = pair_source::reading_of(&source, wrapped, r.mark, f, coarse.interval);
     pair_fill::Pair {
-        from: from,
-        to: to,
-        reading: reading,
+        from,
+        to,
+        reading,
         dest: next,
     }
 }
@@ -97,7 +97,7 @@ fn fill_pair(image: &mut [u8], u: Progress, row: usize, f: model::ConsolidationF
     let stamp = before(q.end);
     let wrapped = lookup::flag(flags, row + 1);
     let filling = window_write::Filling {
-        wrapped: wrapped,
+        wrapped,
         writes: 0,
         outcome: Ok(()),
     };
@@ -109,7 +109,7 @@ fn fill_pair(image: &mut [u8], u: Progress, row: usize, f: model::ConsolidationF
     Progress {
         flags: after,
         count: u.count + done.writes,
-        outcome: outcome,
+        outcome,
     }
 }
 
@@ -124,7 +124,7 @@ pub fn pair(image: &mut [u8], u: Progress, row: usize) -> Progress
     let function = pair_source::function_of(next.function);
     let Some(f) = function else {
         return Progress {
-            flags: flags,
+            flags,
             count: u.count,
             outcome: Err(model::Refusal::NoConsolidationFunction),
         };
@@ -141,7 +141,7 @@ pub fn pair(image: &mut [u8], u: Progress, row: usize) -> Progress
     let good = pair_source::stamps_below(&source);
     if !good {
         return Progress {
-            flags: flags,
+            flags,
             count: u.count,
             outcome: Err(model::Refusal::CorruptedSlab),
         };

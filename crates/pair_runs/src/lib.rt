@@ -61,13 +61,13 @@ fn part_of(p: pair_fill::Pair, start: u64, end: u64) -> pair_fill::Pair
         wrapped: q.wrapped,
         function: f,
         long: q.long,
-        start: start,
-        end: end,
+        start,
+        end,
     };
     pair_fill::Pair {
         from: p.from,
         to: p.to,
-        reading: reading,
+        reading,
         dest: d,
     }
 }

@@ -84,10 +84,10 @@ pub fn reading_of(
     window::Reading {
         slots: slab.slots,
         series: slab.series,
-        wrapped: wrapped,
+        wrapped,
         function: f,
-        long: long,
-        start: start,
-        end: end,
+        long,
+        start,
+        end,
     }
 }

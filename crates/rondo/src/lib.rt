@@ -67,10 +67,7 @@ pub extern "C" fn rondo_record(
 ) -> u32
     ensures { done_as result (lent_at image.new flags.new) ≡ call (lent_at image.old flags.old) (record_call schema column value stamp) }
 {
-    let handle = model::SeriesHandle {
-        schema: schema,
-        column: column,
-    };
+    let handle = model::SeriesHandle { schema, column };
     let opened = image_quick::check(image);
     if opened != 0 {
         return opened;
@@ -154,10 +151,7 @@ pub extern "C" fn rondo_query(
     ensures number { result ≡ query_no (query (lent_at image.now flags) schema column tier start end) }
     ensures words { answer.new ≡ query_words (query (lent_at image.now flags) schema column tier start end) answer.old }
 {
-    let handle = model::SeriesHandle {
-        schema: schema,
-        column: column,
-    };
+    let handle = model::SeriesHandle { schema, column };
     let opened = image_quick::check(image);
     if opened != 0 {
         return opened;
@@ -181,10 +175,7 @@ pub extern "C" fn rondo_query_auto(
     ensures number { result ≡ query_no (query_auto (lent_at image.now flags) schema column start end) }
     ensures words { answer.new ≡ query_words (query_auto (lent_at image.now flags) schema column start end) answer.old }
 {
-    let handle = model::SeriesHandle {
-        schema: schema,
-        column: column,
-    };
+    let handle = model::SeriesHandle { schema, column };
     let opened = image_quick::check(image);
     if opened != 0 {
         return opened;
@@ -242,10 +233,7 @@ pub extern "C" fn rondo_read(
 {
     let slot = place[0];
     let left = place[1];
-    let at = model::Place {
-        slot: slot,
-        left: left,
-    };
+    let at = model::Place { slot, left };
     let fetched = fetch::fetch(slab, column, start, end, at, points);
     let behind = fetched.place;
     *place = [behind.slot, behind.left];
@@ -267,10 +255,7 @@ pub extern "C" fn rondo_panel(
     ensures presence { shown.new ≡ shown_as (panel (lent_at image.now flags) schema column tier) shown.old }
     ensures whole { figure.new ≡ whole_as (panel (lent_at image.now flags) schema column tier) figure.old }
 {
-    let handle = model::SeriesHandle {
-        schema: schema,
-        column: column,
-    };
+    let handle = model::SeriesHandle { schema, column };
     let opened = image_quick::check(image);
     if opened != 0 {
         return opened;
@@ -304,10 +289,7 @@ pub extern "C" fn rondo_service(
     ensures number { result ≡ service_no (service (lent_at image.now flags) schema column tier) }
     ensures words { figure.new ≡ service_words (service (lent_at image.now flags) schema column tier) figure.old }
 {
-    let handle = model::SeriesHandle {
-        schema: schema,
-        column: column,
-    };
+    let handle = model::SeriesHandle { schema, column };
     let opened = image_quick::check(image);
     if opened != 0 {
         return opened;

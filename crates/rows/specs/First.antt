@@ -1,4 +1,4 @@
--- A check's answer: as a list of tests, where it stops and where it goes on; as an enum, by its number. Assumes nothing.
+-- A check's answer: as a list of tests, where it stops and where it goes on; as a `Result`, by its number. Assumes nothing.
 use Rattle.std.specs.Prelude.{ℕ, zero, suc, ◌≡◌, refl, Bool, false, List, [], ◌∷◌, Result, Ok, Err}
 use Rattle.std.proofs.Common.{arith, sym, ap, ◌∙◌}
 use Rattle.model.specs.declared.Refusal.{Refusal}

@@ -47,7 +47,7 @@ fn start_of(queried: Result<model::Found, model::Refusal>) -> Start
 {
     let Ok(found) = queried else {
         return Start {
-            queried: queried,
+            queried,
             from: 0,
             to: 0,
             column: 0,
@@ -58,7 +58,7 @@ fn start_of(queried: Result<model::Found, model::Refusal>) -> Start
         };
     };
     Start {
-        queried: queried,
+        queried,
         from: found.from,
         to: found.to,
         column: found.column,

@@ -47,14 +47,8 @@ pub fn demand(
     let made = create::create(plan, image, flags);
     let fresh = made.flags;
     let last = carry_all(image, fresh, before, between);
-    let handle = model::SeriesHandle {
-        schema: 0,
-        column: column,
-    };
+    let handle = model::SeriesHandle { schema: 0, column };
     let queried = query::query(image, last, handle, tier, 0, 18446744073709551615);
     let count = tie_points::hand_answer(image, queried, out);
-    Demanded {
-        flags: last,
-        count: count,
-    }
+    Demanded { flags: last, count }
 }

@@ -53,7 +53,7 @@ pub fn same_on_panel(image: &[u8], asked: Question, other: &[u8], also: Question
     }
 }
 
-// From a plan to the panel after a run.
+// From a plan to the panel after a run: the calls of `tie::demand`, and then another question; a function for the two calls that they share would be no shorter.
 pub fn panel_after(
     plan: &[u8],
     image: &mut [u8],
@@ -68,13 +68,7 @@ pub fn panel_after(
     let made = create::create(plan, image, flags);
     let fresh = made.flags;
     let last = tie::carry_all(image, fresh, before, between);
-    let handle = model::SeriesHandle {
-        schema: 0,
-        column: column,
-    };
+    let handle = model::SeriesHandle { schema: 0, column };
     let panel = figure::panel(image, last, handle, tier);
-    After {
-        flags: last,
-        panel: panel,
-    }
+    After { flags: last, panel }
 }

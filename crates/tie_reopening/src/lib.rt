@@ -86,7 +86,7 @@ pub fn ask_after(
     let count = tie_points::hand_answer(image, queried, out);
     Answer {
         flags: last,
-        queried: queried,
-        count: count,
+        queried,
+        count,
     }
 }

@@ -113,7 +113,7 @@ fn enter(f: model::ConsolidationFn, g: Gathered, h: model::Held) -> Gathered
             Gathered {
                 seen: g.seen + 1,
                 finite: g.finite + 1,
-                value: value,
+                value,
             }
         }
     }

@@ -97,13 +97,13 @@ pub fn next_run(slab: &[u8], q: window::Reading, place: model::Place) -> Run
     let over = skip(slab, q, w, q.long, behind);
     let rest = over.rest;
     let run = model::Place {
-        slot: slot,
+        slot,
         left: left - over.last,
     };
     Run {
         window: w,
-        run: run,
-        rest: rest,
+        run,
+        rest,
     }
 }
 
@@ -209,8 +209,5 @@ pub fn next_strand(slab: &[u8], q: window::Reading, start: u64, first: model::Pl
     let slots = up_to_last(slab, q, start, first);
     let e = edge_of(slab, q, start, slots);
     let place = e.place;
-    Strand {
-        place: place,
-        end: e.end,
-    }
+    Strand { place, end: e.end }
 }

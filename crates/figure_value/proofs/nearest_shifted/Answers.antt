@@ -1,6 +1,5 @@
 -- `figure_value::nearest_shifted` meets its contract. Assumes nothing.
 use native.Mathlib.Omega.{arith}
-use borrow.Author.Rules.{rules}
 use Rattle.figure_value.proofs.Laws.{Half, half_is, nearest_added}
 use Rattle.figure_value.proofs.nearest_shifted.Goals as goal
 

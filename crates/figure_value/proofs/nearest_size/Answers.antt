@@ -3,7 +3,6 @@ use Prim.Native.Nat.{◌+◌, ◌-◌, ◌/◌, ◌%◌, ◌^◌}
 use native.Mathlib.Nat.{lt_of_le_of_lt, mod-eq_of_lt}
 use native.Mathlib.Omega.{arith}
 use lib.Dec.{lit<, lit≤}
-use borrow.Author.Rules.{rules}
 use Rattle.figure_value.proofs.Laws.{size_none, size_whole, size_between, whole-fits, closest_fits}
 use Rattle.figure_value.proofs.nearest_size.Goals as goal
 

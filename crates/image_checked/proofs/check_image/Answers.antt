@@ -1,6 +1,5 @@
 -- `image_checked::check_image` meets its contract: 0 is opening's number, or the plain check says it. Assumes nothing.
 use mathlib.Core.Path.{sym, ◌∙◌}
-use borrow.Author.Rules.{rules}
 use Rattle.image_checked.proofs.check_image.Goals as goal
 
 pub returns-then-number-eq0 : goal.returns-then-number-eq0

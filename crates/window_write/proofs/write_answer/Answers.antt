@@ -1,9 +1,7 @@
 -- `window_write::write_answer` meets its contract, one case a variant. A number is not NaN, so that its pattern can be taken. Assumes nothing.
 use native.Mathlib.Omega.{arith}
-use Rattle.model.specs.Consolidate.{Filled}
 use Rattle.window_write.specs.Parts.{filled_of}
 use Rattle.window_write.proofs.Laws.{wrote_nothing, wrote_number, wrote_nan}
-use borrow.Author.Rules.{rules}
 use Rattle.window_write.proofs.write_answer.Goals as goal
 
 pub float_to_bits-bits : goal.float_to_bits-bits

@@ -1,14 +1,11 @@
 -- `window_write::write_bits` meets its contract: 12, then 13, then the write, unless it is old. Assumes nothing.
 use mathlib.Core.Path.{◌≡◌, sym, ◌∙◌}
 use mathlib.Core.Bool.{true, false}
-use borrow.Author.Tests.{not-true, not-false}
 use native.Mathlib.Omega.{arith}
 use Rattle.model.specs.Ring.{is_infinite, is_old}
 use Rattle.model.specs.Record.{stamp_ok}
-use Rattle.model.specs.Consolidate.{Filled}
 use Rattle.window_write.specs.Parts.{filled_of}
 use Rattle.window_write.proofs.Laws.{refused_value, refused_stamp, passed_over, written}
-use borrow.Author.Rules.{rules}
 use Rattle.window_write.proofs.write_bits.Goals as goal
 
 pub is_old-old-requires : goal.is_old-old-requires
