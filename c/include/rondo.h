@@ -26,10 +26,10 @@
  * What it asks of a machine (make check tries each of these):
  * - x86-64 with the System V calling convention, as on Linux; SSE2 and nothing newer.
  * - memset: the one symbol that librondo.a needs (nm -u).
- * - Code: 19,744 bytes with constants, and no data (size librondo.a; the build of 2026-11-26).
- * - Stack: at most RONDO_STACK_SIZE bytes a call, beside memset's own. That build takes 668, the return
+ * - Code: 19,882 bytes with constants, and no data (size librondo.a; the build of 2026-11-27).
+ * - Stack: at most RONDO_STACK_SIZE bytes a call, beside memset's own. That build takes 684, the return
  *   address among them: the deepest path of each call, added up from the disassembly (c/tests/stack.awk);
- *   528 is the most that the single-stepped calls took. Up to 8 of them lie below the stack pointer, as
+ *   544 is the most that the single-stepped calls took. Up to 8 of them lie below the stack pointer, as
  *   the convention allows: an interrupt on the same stack must leave the 128 bytes below it.
  * - Alignment: none is asked of images, plans and entries; numbers and structs have that of C.
  * - Floating point: averages and sums are computed in the mode that the caller has set. Round to nearest
@@ -242,10 +242,10 @@ uint32_t rondo_image_size(const uint8_t *plan, size_t plan_len, uint64_t *size);
  * Writes the plan's fresh image at the start of `image`, and makes the flags of its rows 0. Later
  * bytes and flags stay. Refuses 1 to 9.
  *
- * Cut short, it may leave an image that opens. Single-stepped with glibc's memset: of 372 images, over
- * zeros, 0xff, noise and fresh stores, rondo_open refused 332 (with 1, 2, 3 or 10) and accepted 40; 36 of
- * these were not finished, and 3 gave points that nobody recorded. Over a store of the same plan it
- * accepted all 60 images, some with a part of the old points. So keep a word beside the image that says
+ * Cut short, it may leave an image that opens. Single-stepped with glibc's memset: of 352 images, over
+ * zeros, 0xff, noise and fresh stores, rondo_open refused 308 (with 1, 3 or 10) and accepted 44; 40 of
+ * these were not finished, and 4 gave points that nobody recorded. Over a store of the same plan it
+ * accepted all 64 images, some with a part of the old points. So keep a word beside the image that says
  * that creation has ended, as c/examples/power_up.c does. Made again, it left the same image from each.
  */
 uint32_t rondo_create(const uint8_t *plan, size_t plan_len,
