@@ -1,4 +1,4 @@
--- `query::query` meets its contract: opening's refusal, or what `query_numbered` answers. Assumes nothing.
+-- `query::query` meets its contract: opening's refusal, or what `query_opened` answers. Assumes nothing.
 use Rattle.std.proofs.lemmas.Result.{err_from_is_err_and}
 use Rattle.query.proofs.Laws.{not_opened}
 use Rattle.query.proofs.query.Goals as goal
@@ -10,4 +10,4 @@ returns-in_err-image c =
     rw (p.1, p.2) (not_opened a.image.now a.flags.wrapped a.handle.schema a.handle.column a.start a.end _ c.in_err-image.ensures.refused a.tier)
 
 pub returns : goal.returns
-returns c = rw (← c.number_of-number.ensures.1, ← c.in_ok-image.ensures.opened) c.query_numbered.ensures
+returns c = rw (← c.in_ok-image.ensures.opened) c.query_opened.ensures
