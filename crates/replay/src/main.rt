@@ -4,9 +4,9 @@
 
 mod stored;
 
-use anyhow::{Context, Result};
+use anyhow::{Result, bail};
 use owned::Store;
-use std::io::{Read, Write};
+use std::io::{ErrorKind, Read, Write};
 use std::{fmt, io};
 use stored::{Item, Items, Kind};
 
@@ -14,7 +14,7 @@ use stored::{Item, Items, Kind};
 const BLOCK: usize = 65_536;
 
 // How many blocks of the list are read at most.
-const BLOCKS: u64 = 31;
+const BLOCKS: u32 = 31;
 
 // How many calls there were, and how many are unlike the stored ones.
 #[derive(Clone, Copy, Default)]
@@ -46,10 +46,10 @@ struct Replay {
 
 impl Replay {
     // One item: the rest of a block, the end of a group, or a call, which is unlike the stored one if its answer is, or the image or a flag after it.
-    fn carry(&mut self, rt: &impl Print, item: Item<'_>) -> Result<()> {
+    fn carry(&mut self, rt: &impl Print, item: Item<'_>) {
         let store = &mut self.store;
         let alike = match item.kind() {
-            Kind::Rest => return Ok(()),
+            Kind::Rest => return,
             Kind::GroupEnd => return self.end_group(rt, item),
             Kind::Create => item
                 .rest(48)
@@ -78,34 +78,36 @@ impl Replay {
         let unlike = !alike || !item.is_left(&self.store);
         self.group.count(unlike);
         self.all.count(unlike);
-        Ok(())
     }
 
-    // Ends a group: writes its line. Its name stands in the item from 48 on.
-    fn end_group(&mut self, rt: &impl Print, item: Item<'_>) -> Result<()> {
-        io::writer(rt).write_all(item.rest(48).unwrap_or_default())?;
-        println!(rt; ": {}", self.group)?;
+    // Ends a group: writes its line, if it can be written. Its name stands in the item from 48 on.
+    fn end_group(&mut self, rt: &impl Print, item: Item<'_>) {
+        let _ = io::writer(rt).write_all(item.rest(48).unwrap_or_default());
+        let _ = println!(rt; ": {}", self.group);
         self.group = Tally::default();
-        Ok(())
     }
 }
 
 fn main(rt: HostRuntime) -> Result<()> {
-    let mut list = Vec::new(rt.alloc());
-    rt.reader()
-        .take(BLOCKS * BLOCK as u64)
-        .read_to_end(&mut list)
-        .context("reading the list")?;
     let mut replay = Replay {
         store: Store::new(rt.alloc(), BLOCK)?,
         group: Tally::default(),
         all: Tally::default(),
     };
-    for block in list.chunks(BLOCK) {
-        for item in Items(block) {
-            replay.carry(&rt, item)?;
+    let mut input = rt.reader();
+    // Room for a byte more than a block's, so that reading to a block's end takes no more of it.
+    let mut block = Vec::with_capacity(rt.alloc(), BLOCK + 1)?;
+    for _ in 0..BLOCKS {
+        block.clear();
+        // A read that fails ends the block, as the list's end does.
+        let read = input.by_ref().take(BLOCK as u64).read_to_end(&mut block);
+        if read.is_err_and(|e| e.kind() == ErrorKind::OutOfMemory) {
+            bail!("out of memory");
+        }
+        for item in Items(block.as_slice()) {
+            replay.carry(&rt, item);
         }
     }
-    println!(rt; "all: {}", replay.all)?;
+    let _ = println!(rt; "all: {}", replay.all);
     Ok(())
 }

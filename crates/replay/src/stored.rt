@@ -1,6 +1,6 @@
 // The stored list that the program `replay` carries out: its items, an item's words, and what an item says of a call's answer and of the image and the flags
 // after it (crates/replay/README.md).
-ghost use Rattle.std.specs.Prelude.{length};
+ghost use Rattle.std.specs.Prelude.{◌<◌, ◌≤◌, length};
 ghost use Rattle.std.specs.Iterator.{at_most};
 
 use owned::{Points, Refused, Store};
@@ -47,7 +47,19 @@ impl TryFrom<u64> for Kind {
     }
 }
 
-// A block's items, one after another: an item's first word is its length, and one of length 0, or that goes past the block's end, ends with the block.
+// Where a block's first item ends: its first word is its length, and one of length 0, or that goes past the block's end, ends with the block.
+fn end_of(block: &[u8]) -> usize
+    requires { 0 < length block.now }
+    ensures { (0 < result) × (result ≤ length block.now) }
+{
+    let size = owned::word(block, 0).unwrap_or(0) as usize;
+    if 0 < size && size <= block.len() {
+        return size;
+    }
+    block.len()
+}
+
+// A block's items, one after another.
 #[derive(Clone, Copy)]
 pub struct Items<'a>(pub &'a [u8]);
 
@@ -61,13 +73,7 @@ impl<'a> Iterator for Items<'a> {
         if block.is_empty() {
             return None;
         }
-        let size = owned::word(block, 0).unwrap_or(0) as usize;
-        let end = if 0 < size && size <= block.len() {
-            size
-        } else {
-            block.len()
-        };
-        let (item, rest) = block.split_at(end);
+        let (item, rest) = block.split_at(end_of(block));
         self.0 = rest;
         Some(Item(item))
     }
@@ -185,9 +191,14 @@ impl<'a> Item<'a> {
     }
 }
 
-// The sum of bytes: a polynomial in 257 over the integers modulo the prime 2^32 - 5, so that every change of one byte shows.
+// One byte more of a sum: a polynomial in 257 over the integers modulo the prime 2^32 - 5, so that every change of one byte shows.
+fn add_byte(sum: u32, byte: u8) -> u32
+    ensures { result < 4294967291 }
+{
+    ((u64::from(sum) * 257 + u64::from(byte) + 1) % 4_294_967_291) as u32
+}
+
+// The sum of bytes.
 fn sum_of(bytes: &[u8]) -> u32 {
-    bytes.iter().fold(0, |sum, byte| {
-        ((u64::from(sum) * 257 + u64::from(*byte) + 1) % 4_294_967_291) as u32
-    })
+    bytes.iter().fold(0, |sum, byte| add_byte(sum, *byte))
 }

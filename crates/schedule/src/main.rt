@@ -58,10 +58,9 @@ fn record(store: &mut Store, from: u32, to: u32) -> Result<(), Refused> {
     Ok(())
 }
 
-// Consolidates, and writes the answer.
-fn run(rt: &impl Print, store: &mut Store) -> Result<()> {
-    println!(rt; "run: {}", Ran(store.run()))?;
-    Ok(())
+// Consolidates, and writes the answer. A line that can't be written is left out, here and below.
+fn run(rt: &impl Print, store: &mut Store) {
+    let _ = println!(rt; "run: {}", Ran(store.run()));
 }
 
 // Writes a line on a tier and a series, read over all time.
@@ -75,7 +74,7 @@ fn show(rt: &(impl Print + AllocGlobal), store: &Store, tier: u32, column: u32) 
     let count = points.len();
     let first = Shown(first);
     let last = Shown(last);
-    println!(rt; "tier {tier} series {column}: {count} points, first {first}, last {last}")?;
+    let _ = println!(rt; "tier {tier} series {column}: {count} points, first {first}, last {last}");
     Ok(())
 }
 
@@ -94,11 +93,11 @@ fn main(rt: HostRuntime) -> Result<()> {
     let mut store = Store::new(rt.alloc(), LENGTH)?;
     store.create(plan.as_slice())?;
     record(&mut store, 0, 3600)?;
-    run(&rt, &mut store)?;
+    run(&rt, &mut store);
     record(&mut store, 3600, 5430)?;
-    run(&rt, &mut store)?;
+    run(&rt, &mut store);
     show_all(&rt, &store)?;
     record(&mut store, 5430, 7200)?;
-    run(&rt, &mut store)?;
+    run(&rt, &mut store);
     show_all(&rt, &store)
 }
