@@ -2,11 +2,13 @@
 // bytes after each call, by a sum. README.md says how the list (`stdin`) is laid out and how it was made. A line a group of calls, and a total.
 #![tactic(auto)]
 
+ghost use Rattle.std.specs.Prelude.{◌≤◌, length};
+
 mod stored;
 
-use anyhow::{Result, bail};
+use anyhow::Result;
 use owned::Store;
-use std::io::{ErrorKind, Read, Write};
+use std::io::{Read, Write};
 use std::{fmt, io};
 use stored::{Item, Items, Kind};
 
@@ -88,6 +90,20 @@ impl Replay {
     }
 }
 
+// Reads until the block is full, the input ends or a read fails: how many bytes there are.
+fn read_block(input: &mut impl Read, block: &mut [u8]) -> usize
+    ensures { result ≤ length block.new }
+{
+    let mut filled = 0;
+    for _ in 0..block.len() {
+        match input.read(&mut block[filled..]) {
+            Ok(n) if 0 < n => filled += n,
+            _ => break,
+        }
+    }
+    filled
+}
+
 fn main(rt: HostRuntime) -> Result<()> {
     let mut replay = Replay {
         store: Store::new(rt.alloc(), BLOCK)?,
@@ -95,16 +111,10 @@ fn main(rt: HostRuntime) -> Result<()> {
         all: Tally::default(),
     };
     let mut input = rt.reader();
-    // Room for a byte more than a block's, so that reading to a block's end takes no more of it.
-    let mut block = Vec::with_capacity(rt.alloc(), BLOCK + 1)?;
+    let mut block = vec![in rt.alloc(); 0; BLOCK]?;
     for _ in 0..BLOCKS {
-        block.clear();
-        // A read that fails ends the block, as the list's end does.
-        let read = input.by_ref().take(BLOCK as u64).read_to_end(&mut block);
-        if read.is_err_and(|e| e.kind() == ErrorKind::OutOfMemory) {
-            bail!("out of memory");
-        }
-        for item in Items(block.as_slice()) {
+        let filled = read_block(&mut input, block.as_mut_slice());
+        for item in Items(&block.as_slice()[..filled]) {
             replay.carry(&rt, item);
         }
     }
