@@ -34,8 +34,8 @@ pub fn seek(
     Err(model::Refusal::InvalidTimeRange)
 }
 
-// Queries a tier, once opening's check has passed. It reads the row's flag alone: over the number of all flags, as `query_auto` goes, a query with three rows
-// takes 463 instructions in place of 374.
+// Queries a tier, once opening's check has passed. It reads the row's flag alone: to make the number of all 32 first, as `query_auto` does, takes 89
+// instructions more.
 fn query_opened(
     image: &lookup::Image,
     flags: model::Flags,
