@@ -90,13 +90,17 @@ impl Replay {
     }
 }
 
-// Reads until the block is full, the input ends or a read fails: how many bytes there are.
+// Reads until the block is full, the input ends or a read fails: how many bytes there are. Each turn but the last reads a byte at least.
 fn read_block(input: &mut impl Read, block: &mut [u8]) -> usize
     ensures { result ≤ length block.new }
 {
     let mut filled = 0;
     for _ in 0..block.len() {
-        match input.read(&mut block[filled..]) {
+        let rest = &mut block[filled..];
+        if rest.is_empty() {
+            break;
+        }
+        match input.read(rest) {
             Ok(n) if 0 < n => filled += n,
             _ => break,
         }
